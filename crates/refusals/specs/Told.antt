@@ -1,0 +1,33 @@
+-- What an entry tells its caller, and refusals in the paper's order.
+use mathlib.Core.Bool.{Bool, true, false}
+use Prim.Native.Nat.{ℕ}
+
+-- Demand 1: an entry ends with its result, or with one number of the table and the record at fault (0 where there is none).
+pub data Told (A : Type 0) : Type 0 where
+  done : A → Told A
+  refused : ℕ → ℕ → Told A
+
+-- What judging finds: nothing, or a number of the table and the record at fault.
+pub data Fault : Type 0 where
+  fine : Fault
+  fault : ℕ → ℕ → Fault
+
+-- the number, with record 0, unless the test holds
+abbrev pub demand : Bool → ℕ → Fault
+demand true number = fine
+demand false number = fault number 0
+
+-- the number, with its record, unless the test holds
+abbrev pub demandAt : Bool → ℕ → ℕ → Fault
+demandAt true number at = fine
+demandAt false number at = fault number at
+
+-- the paper's order: the first fault found is the one given
+abbrev pub orElse : Fault → Fault → Fault
+orElse fine next = next
+orElse (fault number at) next = fault number at
+
+-- the result, unless a fault was found
+abbrev pub judged : {A : Type 0} → Fault → A → Told A
+judged fine x = done x
+judged (fault number at) x = refused number at
