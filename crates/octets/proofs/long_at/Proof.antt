@@ -1,0 +1,53 @@
+-- `octets::long_at` meets its contract: four bytes are two words.
+use mathlib.Core.Path.{sym}
+use borrow.Author.Needs.{needs}
+use Rattle.octets.specs.Octets.{longAt}
+use Rattle.octets.proofs.Laws.{number-past, long-is}
+use Rattle.octets.proofs.long_at.Statement.{statement}
+use Rattle.octets.proofs.long_at.Tie as tie
+
+returns : tie.Need-returns
+unfolding longAt
+returns c = sym (number-past 4 (c .before .before .args .s .now) (c .before .before .args .at) (c .if1 .taken))
+
+word-at-requires : tie.Need-word-at-requires
+word-at-requires c κs = search needs
+
+cast-low : tie.Need-cast-low
+cast-low c = search needs
+
+add-word-at : tie.Need-add-word-at
+add-word-at c = search needs
+
+word-at-requires-2 : tie.Need-word-at-requires-2
+word-at-requires-2 c κs = search needs
+
+cast-high : tie.Need-cast-high
+cast-high c = search needs
+
+mul-result : tie.Need-mul-result
+mul-result c = search needs
+
+add-result : tie.Need-add-result
+add-result c = search needs
+
+returns-2 : tie.Need-returns-2
+returns-2 c =
+    let a = c .before .before .before .before .args in
+    let low = c .before .word-at .ensures in
+    let high = c .word-at2 .ensures in
+    rw (low, high) (sym (long-is (a .s .now) (a .at)))
+
+pub long-at-spec : {M : Type 1} → statement M
+long-at-spec =
+    tie.close
+    (tie.spec
+    returns
+    word-at-requires
+    cast-low
+    add-word-at
+    word-at-requires-2
+    cast-high
+    mul-result
+    add-result
+    returns-2)
