@@ -1,3 +1,4 @@
 pub mod Laws
 pub mod Combining
 pub mod Steel
+pub mod Figures
