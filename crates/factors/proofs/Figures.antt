@@ -21,12 +21,12 @@ pub record Figures : Type 0 where
   -- mild steel at 73.5, 6 places: 1.000251
   pub cts-mild : ctsOf 6 MildCarbon (pos 735) ≡ done 1000251
   -- P 50, ID 10.020, WT 0.365, E 28,000,000, 6 places: 1.000049
-  pub cps-fifty : cpsOf 6 10020 365 28000000 50 ≡ done 1000049
+  pub cps-fifty : cpsOf 6 (record { diameter = 10020; wall = 365; modulus = 28000000 }) 50 ≡ done 1000049
   -- water at 50: 1.000160
   pub cpl-water : cplOf 6 320 50 ≡ done 1000160
   -- the proving's factors at 73.5 °F and 40 psi with F 820, and with CTL 0.9907 the prover factor 0.9913
   pub cts-prover : ctsOf 4 MildCarbon (pos 735) ≡ done 10003
-  pub cps-prover : cpsOf 4 10020 365 30000000 40 ≡ done 10000
+  pub cps-prover : cpsOf 4 (record { diameter = 10020; wall = 365; modulus = 30000000 }) 40 ≡ done 10000
   pub cpl-prover : cplOf 4 820 40 ≡ done 10003
   pub prover-factor : combinedOf 4 (10003 ∷ 10000 ∷ 9907 ∷ 10003 ∷ []) ≡ Value 9913
 

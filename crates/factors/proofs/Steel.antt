@@ -1,4 +1,4 @@
--- CTS without a number below zero: the temperature counted from -100.0 °F.
+-- The steel factors: CTS without a number below zero, the temperature counted from -100.0 °F; and the magnitudes of CPS.
 use mathlib.Core.Path.{_≡_, refl, sym, ap, _∙_, subst}
 use mathlib.Core.Bool.{Bool, true, false, _&&_, cond, and-true}
 use mathlib.Core.Logic.{by-cases}
@@ -13,7 +13,10 @@ use lib.Signed.{nonNeg, mag}
 use mir.Syntax.{w16, w64}
 use mir.Val.{SFits, Fits, toZ, ofZ}
 use mir.ValLaws.{toZ-ofZ}
-use Rattle.ranges.specs.Table.{temperatureOk}
+use Rattle.ranges.specs.Table.{temperatureOk, pressureOk, diameterOk, wallOk, modulusOk}
+use Rattle.ranges.proofs.Laws.{both-first, both-second, within-low, within-high}
+use Rattle.factors.specs.Answers.{pipeOk}
+use Rattle.factors.specs.declared.Pipe.{Pipe}
 
 -- a sum that stays above zero
 minus : (a m : ℕ) → m ≤ a → natAbs (pos a +ℤ negℤ (pos m)) ≡ a - m
@@ -72,3 +75,22 @@ module _ {t : ℤ} (f : SFits w16 t) (w : Warm t) where
 
   pub cast-fits : T (nonNeg (toZ w16 (ofZ w16 (toZ w16 (ofZ w16 t) +ℤ pos 1000)))) × Fits w64 (natAbs (toZ w16 (ofZ w16 (toZ w16 (ofZ w16 t) +ℤ pos 1000))))
   cast-fits = subst (λ (z : ℤ). T (nonNeg z) × Fits w64 (natAbs z)) (sym cast-is) (tt, record { fits = omega (arith, w .high) })
+
+-- the pipe's stiffness E × WT and its load P × ID
+pub record Loads (pipe : Pipe) (p : ℕ) : Type 0 where
+  pub least : 1000000000 ≤ pipe .modulus * pipe .wall
+  pub most : pipe .modulus * pipe .wall ≤ 120000000000
+  pub load : p * pipe .diameter ≤ 90000000
+
+pub loads : {pipe : Pipe} {p : ℕ} → pipeOk pipe ≡ true → pressureOk p ≡ true → Loads pipe p
+unfolding pipeOk diameterOk wallOk modulusOk pressureOk
+loads {pipe} {p} fits pressure =
+    let rest : (wallOk (pipe .wall) && modulusOk (pipe .modulus)) ≡ true = both-second (diameterOk (pipe .diameter)) _ fits in
+    let diameter : diameterOk (pipe .diameter) ≡ true = both-first (diameterOk (pipe .diameter)) _ fits in
+    let wall : wallOk (pipe .wall) ≡ true = both-first (wallOk (pipe .wall)) _ rest in
+    let modulus : modulusOk (pipe .modulus) ≡ true = both-second (wallOk (pipe .wall)) _ rest in
+    record {
+      least = mul-le-mul (within-low 10000000 40000000 (pipe .modulus) modulus) (within-low 100 3000 (pipe .wall) wall);
+      most = mul-le-mul (within-high 10000000 40000000 (pipe .modulus) modulus) (within-high 100 3000 (pipe .wall) wall);
+      load = mul-le-mul (within-high 0 1500 p pressure) (within-high 1000 60000 (pipe .diameter) diameter);
+    }

@@ -14,6 +14,7 @@ use Rattle.exact.specs.declared.Quotient.the-variants.{Value as Quotient·Value
 use Rattle.factors.specs.Metal.{coefficientOf, metalOk}
 use Rattle.factors.specs.Fractions.{cts, cps, cpl, combined}
 use Rattle.factors.specs.declared.Metal.{Metal}
+use Rattle.factors.specs.declared.Pipe.{Pipe}
 use Rattle.factors.specs.declared.Factor.{Factor}
 use Rattle.factors.specs.declared.Factor.the-variants.{Value, Refused}
 use Rattle.factors.specs.declared.Combined.{Combined}
@@ -24,16 +25,21 @@ abbrev pub told : Factor → Told ℕ
 told (Value factor) = done factor
 told (Refused refusal) = refused (numberOf refusal) (recordOf refusal)
 
-unfoldable pub pipeOk : ℕ → ℕ → ℕ → Bool
-pipeOk id wt e = diameterOk id && (wallOk wt && modulusOk e)
+-- a factor's value, and 0 where there is none
+abbrev pub valueOrZero : Factor → ℕ
+valueOrZero (Value factor) = factor
+valueOrZero (Refused refusal) = 0
+
+unfoldable pub pipeOk : Pipe → Bool
+pipeOk pipe = diameterOk (pipe .diameter) && (wallOk (pipe .wall) && modulusOk (pipe .modulus))
 
 -- CTS to d places
 unfoldable pub ctsOf : ℕ → Metal → ℤ → Told ℕ
 ctsOf d metal t = judged (orElse (demand (metalOk metal) 3) (demand (temperatureOk t) 5)) (rounded d (cts t (coefficientOf metal)))
 
 -- CPS to d places
-unfoldable pub cpsOf : ℕ → ℕ → ℕ → ℕ → ℕ → Told ℕ
-cpsOf d id wt e p = judged (orElse (demand (pipeOk id wt e) 3) (demand (pressureOk p) 5)) (rounded d (cps p id e wt))
+unfoldable pub cpsOf : ℕ → Pipe → ℕ → Told ℕ
+cpsOf d pipe p = judged (orElse (demand (pipeOk pipe) 3) (demand (pressureOk p) 5)) (rounded d (cps p (pipe .diameter) (pipe .modulus) (pipe .wall)))
 
 -- CPL to d places
 unfoldable pub cplOf : ℕ → ℕ → ℕ → Told ℕ
@@ -52,3 +58,9 @@ held n = cond (ltb n (2 ^ 64)) (Held n) TooLarge
 -- the combined factor to d places, of up to four factors
 unfoldable pub combinedOf : ℕ → List ℕ → Combined
 combinedOf d fs = cond (leb (length fs) 4) (held (rounded d (combined d fs))) TooMany
+
+-- a combined factor's value, and 0 where there is none
+abbrev pub combinedOrZero : Combined → ℕ
+combinedOrZero (Held factor) = factor
+combinedOrZero TooMany = 0
+combinedOrZero TooLarge = 0

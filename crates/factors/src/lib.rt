@@ -4,9 +4,9 @@ ghost use mathlib.Core.Path.{_≡_};
 ghost use Prim.Native.Nat.{_*_, _≤_, _<_, _^_};
 ghost use lib.ListN.{length, getD};
 ghost use Rattle.exact.specs.Rounding.{rounded, _over_};
-ghost use Rattle.factors.specs.Metal.{coefficientOf};
+ghost use Rattle.factors.specs.Metal.{coefficientOf, metalOk};
 ghost use Rattle.factors.specs.Places.{digits};
-ghost use Rattle.factors.specs.Answers.{told, ctsOf, cpsOf, cplOf, heldBy, combinedOf};
+ghost use Rattle.factors.specs.Answers.{told, valueOrZero, pipeOk, ctsOf, cpsOf, cplOf, heldBy, combinedOf, combinedOrZero};
 use exact::Quotient;
 use refusals::Refusal;
 
@@ -26,6 +26,13 @@ pub struct Pipe {
     pub diameter: u32,
     pub wall: u32,
     pub modulus: u32,
+}
+
+// The prover's settings; the base volume is in 0.0001 barrel.
+pub struct Prover {
+    pub metal: Metal,
+    pub pipe: Pipe,
+    pub base: u32,
 }
 
 // Decimal places of a factor: four for proving and tickets, six for water draw.
@@ -60,6 +67,22 @@ pub fn coefficient(metal: Metal) -> u16
     }
 }
 
+// The metal's coefficient is in range, as a named metal's is.
+pub fn is_metal(metal: Metal) -> bool
+    ensures { λ r. ⌜ r ≡ metalOk metal ⌝ }
+{
+    ranges::is_within(coefficient(metal) as u64, 100, 400)
+}
+
+// The pipe's diameter, wall and modulus are in range.
+pub fn is_pipe(pipe: Pipe) -> bool
+    ensures { λ r. ⌜ r ≡ pipeOk pipe ⌝ }
+{
+    ranges::is_within(pipe.diameter as u64, 1000, 60000)
+        & (ranges::is_within(pipe.wall as u64, 100, 3000)
+            & ranges::is_within(pipe.modulus as u64, 10000000, 40000000))
+}
+
 // One, at so many places: 10^places.
 fn unit(places: Places) -> u64
     ensures { λ r. ⌜ r ≡ 10 ^ digits places ⌝ }
@@ -82,9 +105,9 @@ fn round(num: u64, den: u64, places: Places) -> Factor
 pub fn cts(t: i16, metal: Metal, places: Places) -> Factor
     ensures { λ r. ⌜ told r ≡ ctsOf (digits places) metal t ⌝ }
 {
-    let gc = coefficient(metal) as u64;
-    if ranges::is_within(gc, 100, 400) {
+    if is_metal(metal) {
         if ranges::is_within_signed(t, -200, 2000) {
+            let gc = coefficient(metal) as u64;
             // counted from -100.0 °F, so that no step is below zero
             let above = (t + 1000) as u64;
             return round(100000000 + above * gc - 1600 * gc, 100000000, places);
@@ -96,18 +119,17 @@ pub fn cts(t: i16, metal: Metal, places: Places) -> Factor
 
 // The correction for the effect of pressure on steel, P in psi gage.
 pub fn cps(p: u16, pipe: Pipe, places: Places) -> Factor
-    ensures { λ r. ⌜ told r ≡ cpsOf (digits places) (pipe .diameter) (pipe .wall) (pipe .modulus) p ⌝ }
+    ensures { λ r. ⌜ told r ≡ cpsOf (digits places) pipe p ⌝ }
 {
-    let pressure = p as u64;
-    let diameter = pipe.diameter as u64;
-    let wall = pipe.wall as u64;
-    let modulus = pipe.modulus as u64;
-    let pipe_fits = ranges::is_within(diameter, 1000, 60000)
-        & (ranges::is_within(wall, 100, 3000) & ranges::is_within(modulus, 10000000, 40000000));
-    if pipe_fits {
+    if is_pipe(pipe) {
+        let pressure = p as u64;
         if ranges::is_within(pressure, 0, 1500) {
-            let stiffness = modulus * wall;
-            return round(stiffness + pressure * diameter, stiffness, places);
+            let stiffness = pipe.modulus as u64 * pipe.wall as u64;
+            return round(
+                stiffness + pressure * pipe.diameter as u64,
+                stiffness,
+                places,
+            );
         }
         return Factor::Refused(Refusal::RecordField(0));
     }
@@ -124,6 +146,16 @@ pub fn cpl(p: u16, f: u16, places: Places) -> Factor
         return round(100000000, 100000000 - compressibility * pressure, places);
     }
     Factor::Refused(Refusal::RecordField(0))
+}
+
+// The factor, and 0 where there is none: for a caller that has judged the ranges.
+pub fn value_or_zero(factor: Factor) -> u32
+    ensures { λ r. ⌜ r ≡ valueOrZero factor ⌝ }
+{
+    match factor {
+        Factor::Value(value) => value,
+        Factor::Refused(_) => 0,
+    }
 }
 
 // The factor at a place of the list, and one past its end.
@@ -179,4 +211,15 @@ pub fn combine(factors: &[u32], places: Places) -> Combined
     let first = factor_at(factors, 0) * factor_at(factors, 1);
     let second = factor_at(factors, 2) * factor_at(factors, 3);
     hold(exact::rounded_ratio(first, second, units_above_one(places, count)))
+}
+
+// The combined factor, and 0 where there is none: for a caller whose magnitudes rule that out.
+pub fn combined_or_zero(combined: Combined) -> u64
+    ensures { λ r. ⌜ r ≡ combinedOrZero combined ⌝ }
+{
+    match combined {
+        Combined::Value(value) => value,
+        Combined::TooMany => 0,
+        Combined::TooLarge => 0,
+    }
 }
