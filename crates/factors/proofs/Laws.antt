@@ -26,9 +26,12 @@ module _ (places : Places) {num den : ℕ} (h : 0 < den) (small : num ≤ 2 * de
   scaled = le-trans (mul-le-mul-right (10 ^ digits places) small) (le-of-eq (mul-assoc 2 den (10 ^ digits places) ∙ ap (λ (m : ℕ). 2 * m) (mul-comm den (10 ^ digits places)) ∙ sym (mul-assoc 2 (10 ^ digits places) den)))
 
   -- a fraction of at most 2 is rounded to at most 2
-  pub rounded-small : rounded (digits places) (num over den) ≤ 2000000
+  pub rounded-at-most-two : rounded (digits places) (num over den) ≤ 2 * 10 ^ digits places
   unfolding rounded
-  rounded-small = omega (arith, at-most (num * 10 ^ digits places) (2 * 10 ^ digits places) h scaled, unit-large places)
+  rounded-at-most-two = at-most (num * 10 ^ digits places) (2 * 10 ^ digits places) h scaled
+
+  pub rounded-small : rounded (digits places) (num over den) ≤ 2000000
+  rounded-small = omega (arith, rounded-at-most-two, unit-large places)
 
   pub rounded-by-words : valueOrZero (quotientOf (num * 10 ^ digits places) den) ≡ rounded (digits places) (num over den)
   unfolding rounded
