@@ -1,0 +1,34 @@
+-- Laws of whole numbers by their side of zero and their size.
+use mathlib.Core.Path.{_≡_, refl, sym, ap, _∙_}
+use mathlib.Core.Bool.{Bool, true, false}
+use Prim.Native.Nat.{ℕ, zero, suc, _+_, _-_, _*_, _≤_, _<_}
+use native.Mathlib.Nat.{mul-zero, sub-zero}
+use native.Mathlib.Omega.{arith}
+use borrow.Author.Tests.{lt-ltb, le-ltb}
+use lib.IntN.{ℤ, pos, negsuc, negℤ, natAbs, _+ℤ_, _*ℤ_}
+use Rattle.live.specs.Exact.{sided}
+
+pub size-sided : (s : Bool) (n : ℕ) → natAbs (sided s n) ≡ n
+size-sided false n = refl
+size-sided true zero = refl
+size-sided true (suc n) = refl
+
+pub times-sided : (k : ℕ) (s : Bool) (n : ℕ) → pos k *ℤ sided s n ≡ sided s (k * n)
+times-sided k false n = refl
+times-sided k true zero = rw mul-zero
+times-sided k true (suc n) = refl
+
+-- a + b is on zero's upper side; so is a - b for a b that is not above a, and else it is b - a below
+pub add-above : (a b : ℕ) → pos a +ℤ sided false b ≡ sided false (a + b)
+add-above a b = refl
+
+pub add-reaching : (a b : ℕ) → b ≤ a → pos a +ℤ sided true b ≡ sided false (a - b)
+add-reaching a zero h = ap pos (omega arith)
+add-reaching a (suc b) h = rw (le-ltb a (suc b) h)
+
+pub add-passing : (a b : ℕ) → a < b → pos a +ℤ sided true b ≡ sided true (b - a)
+add-passing a zero h = absurd (omega arith)
+add-passing a (suc b) h = rw (lt-ltb a (suc b) h, more)
+  where
+    more : suc b - a ≡ suc (suc b - suc a)
+    more = omega arith

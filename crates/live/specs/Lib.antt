@@ -1,0 +1,4 @@
+pub mod Exact
+pub mod Nearest
+pub mod Live
+pub mod Channel
