@@ -1,3 +1,6 @@
 pub mod Figures
 pub mod Sides
 pub mod Rounding
+pub mod Value
+pub mod Fields
+pub mod Laws

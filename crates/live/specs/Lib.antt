@@ -1,4 +1,3 @@
 pub mod Exact
 pub mod Nearest
 pub mod Live
-pub mod Channel

@@ -3,13 +3,12 @@
 ghost use mathlib.Core.Path.{_≡_};
 ghost use Rattle.live.specs.Live.{told, liveOf};
 
+use single::Judged;
 use refusals::Refusal;
 
-mod channel;
+mod single;
 
-use channel::Channel;
-
-// A live reading, °F and psi gage.
+// °F and psi gage.
 pub struct Reading {
     pub temperature: f32,
     pub pressure: f32,
@@ -20,21 +19,20 @@ pub enum Live {
     Refused(Refusal),
 }
 
+// The temperature is told of first, whatever the pressure is.
 pub fn convert(reading: Reading) -> Live
     ensures { λ r. ⌜ told r ≡ liveOf (reading .temperature) (reading .pressure) ⌝ }
 {
-    let temperature = channel::judge(reading.temperature, 0, 10, -200, 2000);
+    let temperature = single::judge(reading.temperature, 0, 10, -200, 2000);
+    let pressure = single::judge(reading.pressure, 0, 1, 0, 1500);
     match temperature {
-        Channel::Refused(refusal) => Live::Refused(refusal),
-        Channel::Whole(tenths) => {
-            let pressure = channel::judge(reading.pressure, 0, 1, 0, 1500);
-            match pressure {
-                Channel::Refused(refusal) => Live::Refused(refusal),
-                Channel::Whole(psi) => Live::Whole {
-                    tenths,
-                    psi: psi as u16,
-                },
-            }
-        }
+        Judged::Refusing(refusal) => Live::Refused(refusal),
+        Judged::Within(tenths) => match pressure {
+            Judged::Refusing(refusal) => Live::Refused(refusal),
+            Judged::Within(psi) => Live::Whole {
+                tenths,
+                psi: psi as u16,
+            },
+        },
     }
 }

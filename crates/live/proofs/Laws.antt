@@ -1,0 +1,83 @@
+-- What each field of a single's bits makes of o + k·x: what the code's branches cite.
+use mathlib.Core.Path.{_≡_, refl, sym, ap, _∙_, subst⁻¹}
+use mathlib.Core.Bool.{Bool, true, false, _&&_, and-false}
+use Prim.Native.Nat.{ℕ, zero, suc, _+_, _-_, _*_, _/_, _%_, _^_, _≤_, _<_}
+use native.Mathlib.Nat.{mul-le-mul, mul-one, le-of-lt, le-refl, le-trans, pow-suc}
+use native.Mathlib.Omega.{arith}
+use borrow.Author.Tests.{leb-true, lt-leb}
+use lib.Dec.{leb, lit<, lit≤}
+use lib.IntN.{ℤ, pos, negsuc, negℤ, _+ℤ_}
+use lib.Signed.{leZ, mag}
+use lib.Ieee.{Float, binary32, ofFields, ofBits}
+use lib.Ieee.Exact.{HasValue}
+use lib.Ieee.Scale.{finite}
+use lib.Pow.{pow-pos, pow-mono}
+use mir.Syntax.{w16}
+use mir.Val.{SFits}
+use Rattle.ranges.specs.Within.{withinSigned}
+use Rattle.live.specs.Exact.{sided}
+use Rattle.live.specs.Nearest.{nearest, awayFromZero}
+use Rattle.live.specs.Live.{wholeOf}
+use Rattle.live.proofs.Sides.{add-above, add-passing}
+use Rattle.live.proofs.Rounding.{away-sided}
+use Rattle.live.proofs.Value.{summed, summed-near, summed-whole, whole-of-value}
+use Rattle.live.proofs.Fields.{fieldOf, digitsOf, belowOf, bare-value, leading-value, field-middle, field-large, value-finite}
+
+-- k·a is under a half of 2^149, k of 16 bits and a of 132
+at-most : (k : ℕ) → k < 65536 → k ≤ 65535
+at-most k h = omega arith
+
+under-half : (k a p : ℕ) → k < 65536 → a ≤ 16777215 * p → 0 < p → 2 * (k * a) < 2199023255552 * p
+under-half k a p hk ha hp = omega (arith, mul-le-mul {n₂ = 65535} {m₂ = 16777215 * p} (at-most k hk) ha)
+
+small : (b : ℕ) → digitsOf b ≤ 16777215
+small b = omega arith
+
+pub whole-near : (o k b : ℕ) → k < 65536 → fieldOf b < 110 → wholeOf o k (ofBits binary32 b) ≡ pos o
+whole-near o k b hk h = go (fieldOf b) refl h
+  where
+    near : (a : ℕ) → a ≤ 16777215 * 2 ^ 108 → HasValue (ofBits binary32 b) (belowOf b) a (2 ^ 149) → wholeOf o k (ofBits binary32 b) ≡ pos o
+    near a ha v =
+        whole-of-value o k (ofBits binary32 b) (belowOf b) a (pow-pos 149) v
+        ∙ summed-near o (belowOf b) (k * a) (under-half k a (2 ^ 108) hk ha (pow-pos 108))
+    go : (f : ℕ) → fieldOf b ≡ f → f < 110 → wholeOf o k (ofBits binary32 b) ≡ pos o
+    go zero e h = near (digitsOf b * 1) (mul-le-mul {n₂ = 16777215} {m₂ = 2 ^ 108} (small b) (lit≤ tt)) (bare-value b e)
+    go (suc f) e h = near ((8388608 + digitsOf b) * 2 ^ f) (mul-le-mul {n₂ = 16777215} {m₂ = 2 ^ 108} (omega arith) (pow-mono {i = f} {j = 108} (omega arith))) (leading-value b f e (omega arith))
+
+pub whole-shift : (o k b : ℕ) → 110 ≤ fieldOf b → fieldOf b < 150 → wholeOf o k (ofBits binary32 b) ≡ summed (o * 2 ^ (150 - fieldOf b)) (belowOf b) (k * (8388608 + digitsOf b)) (2 ^ (150 - fieldOf b))
+whole-shift o k b l h =
+    whole-of-value o k (ofBits binary32 b) (belowOf b) (8388608 + digitsOf b) (pow-pos (150 - fieldOf b)) (field-middle b (omega arith) h)
+
+-- the same by parts, as the code goes: the bottom, the sum by its side and size, and its size rounded
+pub whole-by-parts : (o k b : ℕ) (below : Bool) (size : ℕ) {bottom rounded : ℕ} → 110 ≤ fieldOf b → fieldOf b < 150 → bottom ≡ 2 ^ (150 - fieldOf b) → sided below size ≡ pos (o * bottom) +ℤ sided (belowOf b) (k * (8388608 + digitsOf b)) → rounded ≡ nearest size bottom → sided below rounded ≡ wholeOf o k (ofBits binary32 b)
+unfolding summed
+whole-by-parts o k b below size {bottom} {rounded} l h isBottom isSum isRounded =
+    ap (sided below) isRounded
+    ∙ sym (away-sided below size (subst⁻¹ (λ (n : ℕ). 0 < n) isBottom (pow-pos (150 - fieldOf b))))
+    ∙ ap (λ (z : ℤ). awayFromZero z bottom) isSum
+    ∙ ap (λ (n : ℕ). summed (o * n) (belowOf b) (k * (8388608 + digitsOf b)) n) isBottom
+    ∙ sym (whole-shift o k b l h)
+
+pub product-small : {a b : ℕ} → a < 65536 → b ≤ 1099511627776 → a * b < 2 ^ 63
+product-small {a} {b} ha hb = omega (arith, mul-le-mul {n₂ = 65535} {m₂ = 1099511627776} (at-most a ha) hb)
+
+-- a whole number of more than 15 bits is in no range that ends at 32767 on either side
+pub beyond : (low high : ℤ) (s : Bool) (n : ℕ) → leZ (negsuc 32766) low ≡ true → SFits w16 high → 32767 < n → withinSigned low high (sided s n) ≡ false
+beyond low (pos h) false n fl fh l = rw (lt-leb n h (omega (arith, fh .sfits)), and-false (leZ low (pos n)))
+beyond low (negsuc h) false n fl fh l = and-false (leZ low (pos n))
+beyond low high true zero fl fh l = absurd (omega arith)
+beyond (pos a) high true (suc n) fl fh l = refl
+beyond (negsuc a) high true (suc n) fl fh l = rw (lt-leb n a (omega (arith, leb-true a 32766 fl)))
+
+-- so is one that k·a, of 24 bits or more, takes there
+far : (low high : ℤ) (o b : ℕ) (s : Bool) → leZ (negsuc 32766) low ≡ true → SFits w16 high → o < 65536 → 8388608 ≤ b → withinSigned low high (summed (o * 1) s b 1) ≡ false
+far low high o b false fl fh ho l = rw (summed-whole (o * 1) false b) (beyond low high false (o * 1 + b) fl fh (omega arith))
+far low high o b true fl fh ho l =
+    rw (summed-whole (o * 1) true b, add-passing (o * 1) b (omega arith)) (beyond low high true (b - o * 1) fl fh (omega arith))
+
+-- from field 150 on the size is 2^23 or more
+pub whole-far : (low high : ℤ) (o k b : ℕ) → leZ (negsuc 32766) low ≡ true → SFits w16 high → o < 65536 → 0 < k → 150 ≤ fieldOf b → fieldOf b < 255 → withinSigned low high (wholeOf o k (ofBits binary32 b)) ≡ false
+whole-far low high o k b fl fh ho hk l h =
+    ap (withinSigned low high) (whole-of-value o k (ofBits binary32 b) (belowOf b) ((8388608 + digitsOf b) * 2 ^ (fieldOf b - 150)) (lit< tt) (field-large b l h))
+    ∙ far low high o (k * ((8388608 + digitsOf b) * 2 ^ (fieldOf b - 150))) (belowOf b) fl fh ho
+    (mul-le-mul {n₁ = 1} {m₁ = 8388608} hk (mul-le-mul {n₁ = 8388608} {m₁ = 1} (omega arith) (pow-pos (fieldOf b - 150))))
