@@ -2,10 +2,11 @@
 use mathlib.Core.Path.{_≡_, refl, sym, ap, _∙_, subst}
 use mathlib.Core.Bool.{Bool, true, false, cond}
 use Prim.Native.Nat.{ℕ, zero, suc, _+_, _-_, _*_, _/_, _%_, _^_, _≤_, _<_}
-use native.Mathlib.Nat.{mul-assoc, mul-right-comm, eq-of-mul-eq-mul-right}
+use native.Mathlib.Nat.{mul-assoc, mul-right-comm, mod-lt, le-of-suc-le-suc, eq-of-mul-eq-mul-right}
 use native.Mathlib.Omega.{arith}
 use borrow.Author.Tests.{ne-eqb, eq-eqb}
-use lib.Dec.{leb, eqb}
+use lib.Arith.{lt-of-le-ne}
+use lib.Dec.{leb, eqb, lit<}
 use lib.Ieee.{Float, nan, inf, fin, binary32, up, down, odd, ofFields, ofBits}
 use lib.Ieee.Exact.{HasValue, odd-sign}
 use lib.Ieee.Scale.{finite}
@@ -91,3 +92,7 @@ field-large b l h = go (fieldOf b) refl l h
 
 pub bare-value : (b : ℕ) → fieldOf b ≡ 0 → HasValue (ofBits binary32 b) (belowOf b) (digitsOf b * 1) (2 ^ 149)
 bare-value b h = rw (by-fields b, h) (bare (belowOf b) (digitsOf b))
+
+-- a field of 8 bits that is not 255 is under it
+pub under-ones : (b : ℕ) → (fieldOf b ≡ 255 → ⊥) → fieldOf b < 255
+under-ones b h = lt-of-le-ne (le-of-suc-le-suc {m = 255} (mod-lt (b / 8388608) (lit< tt))) h

@@ -1,27 +1,31 @@
 -- What each field of a single's bits makes of o + k·x: what the code's branches cite.
-use mathlib.Core.Path.{_≡_, refl, sym, ap, _∙_, subst⁻¹}
-use mathlib.Core.Bool.{Bool, true, false, _&&_, and-false}
+use mathlib.Core.Path.{_≡_, refl, sym, ap, _∙_, subst, subst⁻¹}
+use mathlib.Core.Bool.{Bool, true, false, not, and-false}
 use Prim.Native.Nat.{ℕ, zero, suc, _+_, _-_, _*_, _/_, _%_, _^_, _≤_, _<_}
-use native.Mathlib.Nat.{mul-le-mul, mul-one, le-of-lt, le-refl, le-trans, pow-suc}
+use native.Mathlib.Nat.{mul-le-mul}
 use native.Mathlib.Omega.{arith}
 use borrow.Author.Tests.{leb-true, lt-leb}
-use lib.Dec.{leb, lit<, lit≤}
-use lib.IntN.{ℤ, pos, negsuc, negℤ, _+ℤ_}
+use lib.Dec.{T, leb, lit<, lit≤}
+use lib.IntN.{ℤ, pos, negsuc, negℤ, _+ℤ_, _-ℤ_, +ℤ-idl}
 use lib.Signed.{leZ, mag}
-use lib.Ieee.{Float, binary32, ofFields, ofBits}
+use lib.Ieee.{Float, nan, inf, fin, binary32, ne, isNan, ofBits}
+use lib.Ieee.Compare.{differs-from-itself, nan-differs}
 use lib.Ieee.Exact.{HasValue}
 use lib.Ieee.Scale.{finite}
 use lib.Pow.{pow-pos, pow-mono}
 use mir.Syntax.{w16}
-use mir.Val.{SFits}
+use mir.Val.{SFits, toZ}
+use mir.ValLaws.{toZ-pos}
 use Rattle.ranges.specs.Within.{withinSigned}
+use Rattle.refusals.specs.Told.{done, refused, Fault, demand, judged}
+use Rattle.refusals.proofs.Laws.{judged-fine, judged-fault, demand-holds, demand-fails, orElse-next, orElse-first}
 use Rattle.live.specs.Exact.{sided}
 use Rattle.live.specs.Nearest.{nearest, awayFromZero}
-use Rattle.live.specs.Live.{wholeOf}
+use Rattle.live.specs.Live.{wholeOf, wholeIn, singleOf, readingFault}
 use Rattle.live.proofs.Sides.{add-above, add-passing}
 use Rattle.live.proofs.Rounding.{away-sided}
 use Rattle.live.proofs.Value.{summed, summed-near, summed-whole, whole-of-value}
-use Rattle.live.proofs.Fields.{fieldOf, digitsOf, belowOf, bare-value, leading-value, field-middle, field-large, value-finite}
+use Rattle.live.proofs.Fields.{fieldOf, digitsOf, belowOf, bare-value, leading-value, field-middle, field-large, value-finite, under-ones}
 
 -- k·a is under a half of 2^149, k of 16 bits and a of 132
 at-most : (k : ℕ) → k < 65536 → k ≤ 65535
@@ -81,3 +85,51 @@ whole-far low high o k b fl fh ho hk l h =
     ap (withinSigned low high) (whole-of-value o k (ofBits binary32 b) (belowOf b) ((8388608 + digitsOf b) * 2 ^ (fieldOf b - 150)) (lit< tt) (field-large b l h))
     ∙ far low high o (k * ((8388608 + digitsOf b) * 2 ^ (fieldOf b - 150))) (belowOf b) fl fh ho
     (mul-le-mul {n₁ = 1} {m₁ = 8388608} hk (mul-le-mul {n₁ = 8388608} {m₁ = 1} (omega arith) (pow-pos (fieldOf b - 150))))
+
+-- a size of 15 bits as the machine's signed number, on either side of zero
+pub machine-above : (n : ℕ) → n ≤ 32767 → toZ w16 n ≡ sided false n
+machine-above n h = toZ-pos w16 n (omega arith)
+
+pub machine-below : (n : ℕ) → n ≤ 32767 → pos 0 -ℤ toZ w16 n ≡ sided true n
+machine-below n h = ap (λ (z : ℤ). pos 0 -ℤ z) (machine-above n h) ∙ +ℤ-idl (negℤ (pos n))
+
+pub sided-fits : (s : Bool) (n : ℕ) → n ≤ 32767 → SFits w16 (sided s n)
+sided-fits false n h = record { sfits = omega arith }
+sided-fits true zero h = record { sfits = omega arith }
+sided-fits true (suc n) h = record { sfits = omega arith }
+
+-- a whole number judged, and a single judged
+pub whole-within : (low high z : ℤ) → withinSigned low high z ≡ true → wholeIn low high z ≡ done z
+unfolding wholeIn
+whole-within low high z t = judged-fine z (demand-holds 13 t)
+
+pub whole-outside : (low high z : ℤ) → withinSigned low high z ≡ false → wholeIn low high z ≡ refused 13 0
+unfolding wholeIn
+whole-outside low high z t = judged-fault z (demand-fails 13 t)
+
+pub single-not-finite : (o k : ℕ) (low high : ℤ) (x : Float) → finite x ≡ false → singleOf o k low high x ≡ refused 12 0
+unfolding singleOf readingFault
+single-not-finite o k low high x t = judged-fault (wholeOf o k x) (orElse-first (demand (withinSigned low high (wholeOf o k x)) 13) (demand-fails 12 t))
+
+pub single-finite : (o k : ℕ) (low high : ℤ) (x : Float) → finite x ≡ true → singleOf o k low high x ≡ wholeIn low high (wholeOf o k x)
+unfolding singleOf readingFault wholeIn
+single-finite o k low high x t =
+    ap (λ (f : Fault). judged f (wholeOf o k x)) (orElse-next (demand (withinSigned low high (wholeOf o k x)) 13) (demand-holds 12 t))
+
+-- every field but 255 is a finite number's
+pub field-finite : (b : ℕ) → (fieldOf b ≡ 255 → ⊥) → finite (ofBits binary32 b) ≡ true
+field-finite b h = go (fieldOf b) refl (under-ones b h)
+  where
+    go : (f : ℕ) → fieldOf b ≡ f → f < 255 → finite (ofBits binary32 b) ≡ true
+    go zero e l = value-finite (ofBits binary32 b) (belowOf b) (digitsOf b * 1) (2 ^ 149) (bare-value b e)
+    go (suc f) e l = value-finite (ofBits binary32 b) (belowOf b) ((8388608 + digitsOf b) * 2 ^ f) (2 ^ 149) (leading-value b f e l)
+
+-- a NaN differs from itself, and nothing else does
+pub differs-not-finite : (x : Float) → ne x x ≡ true → finite x ≡ false
+differs-not-finite x h = ap finite (differs-from-itself x (subst⁻¹ T h tt))
+
+pub same-no-nan : (x : Float) → ne x x ≡ false → T (not (isNan x))
+unfolding isNan
+same-no-nan nan h = absurd (subst T (sym nan-differs ∙ h) tt)
+same-no-nan (inf s) h = tt
+same-no-nan (fin s m e) h = tt
