@@ -4,3 +4,4 @@ pub mod Rounding
 pub mod Value
 pub mod Fields
 pub mod Laws
+pub mod Answers
