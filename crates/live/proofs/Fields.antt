@@ -72,6 +72,7 @@ field-middle b l h = go (fieldOf b) refl l h
   where
     parts : (f : ℕ) → suc f < 150 → 149 ≡ 150 - suc f + f
     parts f h = omega arith
+
     go : (f : ℕ) → fieldOf b ≡ f → 0 < f → f < 150 → HasValue (ofBits binary32 b) (belowOf b) (8388608 + digitsOf b) (2 ^ (150 - f))
     go zero e l h = absurd (omega arith)
     go (suc f) e l h =
@@ -84,6 +85,7 @@ field-large b l h = go (fieldOf b) refl l h
   where
     parts : (f : ℕ) → 150 ≤ suc f → f ≡ suc f - 150 + 149
     parts f l = omega arith
+
     go : (f : ℕ) → fieldOf b ≡ f → 150 ≤ f → f < 255 → HasValue (ofBits binary32 b) (belowOf b) ((8388608 + digitsOf b) * 2 ^ (f - 150)) 1
     go zero e l h = absurd (omega arith)
     go (suc f) e l h =

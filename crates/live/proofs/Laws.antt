@@ -44,6 +44,7 @@ whole-near o k b hk h = go (fieldOf b) refl h
     near a ha v =
         whole-of-value o k (ofBits binary32 b) (belowOf b) a (pow-pos 149) v
         ∙ summed-near o (belowOf b) (k * a) (under-half k a (2 ^ 108) hk ha (pow-pos 108))
+
     go : (f : ℕ) → fieldOf b ≡ f → f < 110 → wholeOf o k (ofBits binary32 b) ≡ pos o
     go zero e h = near (digitsOf b * 1) (mul-le-mul {n₂ = 16777215} {m₂ = 2 ^ 108} (small b) (lit≤ tt)) (bare-value b e)
     go (suc f) e h = near ((8388608 + digitsOf b) * 2 ^ f) (mul-le-mul {n₂ = 16777215} {m₂ = 2 ^ 108} (omega arith) (pow-mono {i = f} {j = 108} (omega arith))) (leading-value b f e (omega arith))

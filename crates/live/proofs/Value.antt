@@ -15,7 +15,7 @@ use Rattle.live.specs.Exact.{sided, numerator, denominator}
 use Rattle.live.specs.Nearest.{nearest, awayFromZero}
 use Rattle.live.specs.Live.{wholeOf}
 use Rattle.live.proofs.Sides.{times-sided, add-above, add-reaching, add-passing}
-use Rattle.live.proofs.Rounding.{nearest-scale, nearest-one, nearest-only, away-sided}
+use Rattle.live.proofs.Rounding.{Nearest, nearest-scale, nearest-one, nearest-only, away-sided, away-nearest, away-only}
 
 sub-mul : (a b c : ℕ) → (a - b) * c ≡ a * c - b * c
 sub-mul a b c = mul-comm (a - b) c ∙ mul-sub c a b ∙ (λ i. mul-comm c a i - mul-comm c b i)
@@ -69,8 +69,25 @@ whole-of-value o k (fin t m e) s a {c} h v =
   where
     times : pos k *ℤ sided t (m * up e) ≡ sided s (k * (m * up e))
     times = times-sided k t (m * up e) ∙ ap (λ (b : Bool). sided b (k * (m * up e))) (v .0)
+
     crossed : k * (m * up e) * c ≡ k * a * down e
     crossed = mul-assoc k (m * up e) c ∙ ap (λ (n : ℕ). k * n) (v .1) ∙ sym (mul-assoc k a (down e))
+
+-- the rounding law, of o + k·x: the whole number is the one nearest to it, and no other is
+denominator-pos : (x : Float) → 0 < denominator x
+unfolding denominator
+denominator-pos nan = lit< tt
+denominator-pos (inf s) = lit< tt
+denominator-pos (fin s m e) = down-pos e
+
+module _ (o k : ℕ) (x : Float) where
+  pub whole-nearest : Nearest (pos (o * denominator x) +ℤ pos k *ℤ numerator x) (denominator x) (wholeOf o k x)
+  unfolding wholeOf
+  whole-nearest = away-nearest _ (denominator x) (denominator-pos x)
+
+  pub whole-only : (z : ℤ) → Nearest (pos (o * denominator x) +ℤ pos k *ℤ numerator x) (denominator x) z → z ≡ wholeOf o k x
+  unfolding wholeOf
+  whole-only z r = away-only _ (denominator x) z (denominator-pos x) r
 
 -- b / d is under a half: what is left is o
 pub summed-near : (o : ℕ) (s : Bool) (b : ℕ) {d : ℕ} → 2 * b < d → summed (o * d) s b d ≡ pos o

@@ -2,9 +2,8 @@
 // through their bits. One conversion, o + k·x with one rounding, serves both.
 ghost use mathlib.Core.Path.{_≡_};
 ghost use Rattle.live.specs.Live.{told, liveOf};
-
-use single::Judged;
 use refusals::Refusal;
+use single::Judged;
 
 mod single;
 

@@ -10,7 +10,6 @@ ghost use lib.Ieee.{binary32, ofBits};
 ghost use Rattle.live.specs.Exact.{sided};
 ghost use Rattle.live.specs.Nearest.{nearest};
 ghost use Rattle.live.specs.Live.{wholeOf, wholeIn, singleOf, singleTold};
-
 use refusals::Refusal;
 
 pub enum Judged {
@@ -84,7 +83,11 @@ fn round_scaled(bits: u32, offset: u16, times: u16) -> Sided
     }
     let bottom = raise_two(150 - field);
     let digits = 8388608 + bits % 8388608;
-    let sum = add_sided(offset as u64 * bottom, 2147483648 <= bits, times as u64 * digits as u64);
+    let sum = add_sided(
+        offset as u64 * bottom,
+        2147483648 <= bits,
+        times as u64 * digits as u64,
+    );
     let size = round_half_up(sum.size, bottom);
     Sided {
         below: sum.below,
