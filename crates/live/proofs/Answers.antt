@@ -14,7 +14,7 @@ use Rattle.refusals.specs.Told.{Told, done, refused, Fault, fine, fault, demand
 use Rattle.refusals.proofs.Laws.{refusal-one, done-one, refused-number, refused-record, judged-fine, judged-fault, orElse-next, orElse-first}
 use Rattle.live.specs.declared.Live.{Live}
 use Rattle.live.specs.declared.Live.the-variants.{Whole, Refused}
-use Rattle.live.specs.Live.{Values, tenthsOf, psiOf, psiOk, readingFault, temperatureFault, pressureFault, wholeOf, singleOf, liveOf, told}
+use Rattle.live.specs.Live.{tenthsOf, psiOf, psiOk, readingFault, temperatureFault, pressureFault, wholeOf, singleOf, liveOf, told}
 
 -- what was refused was a fault, and a result came of none
 refused-fault : {A : Type 0} (f : Fault) (x : A) (n at : ℕ) → judged f x ≡ refused n at → f ≡ fault n at

@@ -4,15 +4,15 @@ use mathlib.Core.Bool.{Bool, true, false, cond}
 use Prim.Native.Nat.{ℕ, zero, suc, _+_, _-_, _*_, _/_, _%_, _^_, _≤_, _<_}
 use native.Mathlib.Nat.{mul-assoc, mul-right-comm, mod-lt, le-of-suc-le-suc, eq-of-mul-eq-mul-right}
 use native.Mathlib.Omega.{arith}
-use borrow.Author.Tests.{ne-eqb, eq-eqb}
+use borrow.Author.Tests.{ne-eqb}
 use lib.Arith.{lt-of-le-ne}
 use lib.Dec.{leb, eqb, lit<}
-use lib.Ieee.{Float, nan, inf, fin, binary32, up, down, odd, ofFields, ofBits}
+use lib.Ieee.{Float, nan, inf, fin, binary32, up, down, ofFields, ofBits}
 use lib.Ieee.Exact.{HasValue, odd-sign}
 use lib.Ieee.Scale.{finite}
 use lib.Pow.{pow-add, pow-pos, field}
 
--- the field of 8 and the 23 digits
+-- the field of 8, the 23 digits, and the side of zero
 abbrev pub fieldOf : ℕ → ℕ
 fieldOf b = b / 8388608 % 256
 
@@ -50,7 +50,7 @@ bare : (s : Bool) (t : ℕ) → HasValue (ofFields binary32 s 0 t) s (t * 2 ^ 0)
 unfolding ofFields
 bare s t = odd-sign 24 s t 0 149
 
--- a value is a finite number's, and the fraction may be cut down
+-- what has a value is finite, and the fraction may be cut down
 pub value-finite : (x : Float) (s : Bool) (a c : ℕ) → HasValue x s a c → finite x ≡ true
 value-finite nan s a c v = absurd v
 value-finite (inf t) s a c v = absurd v
@@ -92,6 +92,7 @@ field-large b l h = go (fieldOf b) refl l h
         value-cut (ofBits binary32 b) (belowOf b) ((8388608 + digitsOf b) * 2 ^ (suc f - 150)) 1 (2 ^ 149) (pow-pos 149)
         (subst (λ (a : ℕ). HasValue (ofBits binary32 b) (belowOf b) a (2 ^ 149)) (ap (λ (n : ℕ). (8388608 + digitsOf b) * 2 ^ n) (parts f l) ∙ ap (λ (n : ℕ). (8388608 + digitsOf b) * n) (pow-add 2 (suc f - 150) 149) ∙ sym (mul-assoc (8388608 + digitsOf b) (2 ^ (suc f - 150)) (2 ^ 149))) (leading-value b f e h))
 
+-- the number that field 0 stands for, in the same units
 pub bare-value : (b : ℕ) → fieldOf b ≡ 0 → HasValue (ofBits binary32 b) (belowOf b) (digitsOf b * 1) (2 ^ 149)
 bare-value b h = rw (by-fields b, h) (bare (belowOf b) (digitsOf b))
 

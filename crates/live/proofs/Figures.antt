@@ -3,7 +3,7 @@ use mathlib.Core.Path.{_≡_, refl}
 use lib.IntN.{pos, negsuc}
 use lib.Ieee.{binary32, ofBits}
 use Rattle.refusals.specs.Told.{done, refused}
-use Rattle.live.specs.Live.{tenthsOf, psiOf, liveOf}
+use Rattle.live.specs.Live.{tenthsOf, liveOf}
 
 -- 73.25 °F gives 733
 pub figure-73·25 : tenthsOf (ofBits binary32 0x4292_8000) ≡ pos 733

@@ -1,13 +1,13 @@
 -- What each field of a single's bits makes of o + k·x: what the code's branches cite.
 use mathlib.Core.Path.{_≡_, refl, sym, ap, _∙_, subst, subst⁻¹}
 use mathlib.Core.Bool.{Bool, true, false, not, and-false}
-use Prim.Native.Nat.{ℕ, zero, suc, _+_, _-_, _*_, _/_, _%_, _^_, _≤_, _<_}
+use Prim.Native.Nat.{ℕ, zero, suc, _+_, _-_, _*_, _^_, _≤_, _<_}
 use native.Mathlib.Nat.{mul-le-mul}
 use native.Mathlib.Omega.{arith}
 use borrow.Author.Tests.{leb-true, lt-leb}
-use lib.Dec.{T, leb, lit<, lit≤}
+use lib.Dec.{T, lit<, lit≤}
 use lib.IntN.{ℤ, pos, negsuc, negℤ, _+ℤ_, _-ℤ_, +ℤ-idl}
-use lib.Signed.{leZ, mag}
+use lib.Signed.{leZ}
 use lib.Ieee.{Float, nan, inf, fin, binary32, ne, isNan, ofBits}
 use lib.Ieee.Compare.{differs-from-itself, nan-differs}
 use lib.Ieee.Exact.{HasValue}
@@ -22,21 +22,22 @@ use Rattle.refusals.proofs.Laws.{judged-fine, judged-fault, demand-holds, deman
 use Rattle.live.specs.Exact.{sided}
 use Rattle.live.specs.Nearest.{nearest, awayFromZero}
 use Rattle.live.specs.Live.{wholeOf, wholeIn, singleOf, readingFault}
-use Rattle.live.proofs.Sides.{add-above, add-passing}
+use Rattle.live.proofs.Sides.{add-passing}
 use Rattle.live.proofs.Rounding.{away-sided}
 use Rattle.live.proofs.Value.{summed, summed-near, summed-whole, whole-of-value}
 use Rattle.live.proofs.Fields.{fieldOf, digitsOf, belowOf, bare-value, leading-value, field-middle, field-large, value-finite, under-ones}
 
--- k·a is under a half of 2^149, k of 16 bits and a of 132
 at-most : (k : ℕ) → k < 65536 → k ≤ 65535
 at-most k h = omega arith
 
+-- k·a is under a half of 2^41 p, k of 16 bits and a of 24 more than p
 under-half : (k a p : ℕ) → k < 65536 → a ≤ 16777215 * p → 0 < p → 2 * (k * a) < 2199023255552 * p
 under-half k a p hk ha hp = omega (arith, mul-le-mul {n₂ = 65535} {m₂ = 16777215 * p} (at-most k hk) ha)
 
 small : (b : ℕ) → digitsOf b ≤ 16777215
 small b = omega arith
 
+-- below field 110 k·x is under a half
 pub whole-near : (o k b : ℕ) → k < 65536 → fieldOf b < 110 → wholeOf o k (ofBits binary32 b) ≡ pos o
 whole-near o k b hk h = go (fieldOf b) refl h
   where
@@ -49,6 +50,7 @@ whole-near o k b hk h = go (fieldOf b) refl h
     go zero e h = near (digitsOf b * 1) (mul-le-mul {n₂ = 16777215} {m₂ = 2 ^ 108} (small b) (lit≤ tt)) (bare-value b e)
     go (suc f) e h = near ((8388608 + digitsOf b) * 2 ^ f) (mul-le-mul {n₂ = 16777215} {m₂ = 2 ^ 108} (omega arith) (pow-mono {i = f} {j = 108} (omega arith))) (leading-value b f e (omega arith))
 
+-- from field 110 to 149 it is a fraction over 2^(150 - field)
 pub whole-shift : (o k b : ℕ) → 110 ≤ fieldOf b → fieldOf b < 150 → wholeOf o k (ofBits binary32 b) ≡ summed (o * 2 ^ (150 - fieldOf b)) (belowOf b) (k * (8388608 + digitsOf b)) (2 ^ (150 - fieldOf b))
 whole-shift o k b l h =
     whole-of-value o k (ofBits binary32 b) (belowOf b) (8388608 + digitsOf b) (pow-pos (150 - fieldOf b)) (field-middle b (omega arith) h)
@@ -63,6 +65,7 @@ whole-by-parts o k b below size {bottom} {rounded} l h isBottom isSum isRounded 
     ∙ ap (λ (n : ℕ). summed (o * n) (belowOf b) (k * (8388608 + digitsOf b)) n) isBottom
     ∙ sym (whole-shift o k b l h)
 
+-- its products are small
 pub product-small : {a b : ℕ} → a < 65536 → b ≤ 1099511627776 → a * b < 2 ^ 63
 product-small {a} {b} ha hb = omega (arith, mul-le-mul {n₂ = 65535} {m₂ = 1099511627776} (at-most a ha) hb)
 

@@ -1,9 +1,9 @@
 -- The rounding law: what `awayFromZero` gives is nearest, on a half the one away from zero, and no other whole number is.
-use mathlib.Core.Path.{_≡_, refl, sym, ap, _∙_, subst}
+use mathlib.Core.Path.{_≡_, refl, sym, ap, _∙_}
 use mathlib.Core.Bool.{Bool, true, false}
 use mathlib.Core.Logic.{inl, inr}
 use Prim.Native.Nat.{ℕ, zero, suc, _+_, _-_, _*_, _/_, _%_, _≤_, _<_}
-use native.Mathlib.Nat.{mul-zero, mul-comm, add-mul, mul-assoc, mul-left-comm, mul-div-mul-right, div-eq-of-lt-le, div-mul-le-self, lt-div-mul-add, div-add-mod', mod-lt, suc-mul, lt-of-not-le, eq-or-lt-of-le}
+use native.Mathlib.Nat.{add-mul, mul-assoc, mul-left-comm, mul-div-mul-right, div-eq-of-lt-le, div-mul-le-self, lt-div-mul-add, div-add-mod', mod-lt, suc-mul, lt-of-not-le, eq-or-lt-of-le}
 use native.Mathlib.Decide.{decLe}
 use native.Mathlib.Omega.{arith}
 use lib.IntN.{ℤ, pos, negsuc, negℤ, natAbs, _+ℤ_, _-ℤ_, _*ℤ_, negℤ-negℤ}
@@ -12,7 +12,7 @@ use Rattle.live.specs.Nearest.{nearest, awayFromZero}
 use Rattle.live.proofs.Sides.{size-opposite, apart-opposite, apart-reaching, apart-passing}
 
 module _ (n d : ℕ) (h : 0 < d) where
-  -- n / d and its whole number are at most half a unit apart; a half goes up
+  -- n / d and its whole number are at most half a unit apart, and a half goes up; no other whole number is so
   pub nearest-low : 2 * (nearest n d * d) ≤ 2 * n + d
   unfolding nearest
   nearest-low = rw (mul-left-comm ((2 * n + d) / (2 * d)) 2 d) at (div-mul-le-self (2 * n + d) (2 * d))
@@ -46,10 +46,15 @@ nearest-scale n d {c} h =
     under = sym (mul-assoc 2 d c)
 
 -- a number that is whole stays as it is
-pub nearest-one : (n : ℕ) → nearest n 1 ≡ n
+nearest-one : (n : ℕ) → nearest n 1 ≡ n
 nearest-one n = nearest-only n 1 (omega arith) n (omega arith) (omega arith)
 
-pub nearest-zero : {d : ℕ} → 0 < d → nearest 0 d ≡ 0
+pub away-whole : (z : ℤ) → awayFromZero z 1 ≡ z
+unfolding awayFromZero
+away-whole (pos n) = ap pos (nearest-one n)
+away-whole (negsuc n) = ap (sided true) (nearest-one (suc n))
+
+nearest-zero : {d : ℕ} → 0 < d → nearest 0 d ≡ 0
 nearest-zero {d} h = nearest-only 0 d h 0 (omega arith) (omega arith)
 
 -- rounding keeps the side of zero
@@ -64,6 +69,7 @@ pub record Nearest (num : ℤ) (den : ℕ) (z : ℤ) : Type 0 where
   pub near : 2 * natAbs (num -ℤ z *ℤ pos den) ≤ den
   pub half : 2 * natAbs (num -ℤ z *ℤ pos den) ≡ den → natAbs num < natAbs z * den
 
+-- what is nearest on one side of zero is so on the other
 opposite : (n z : ℤ) (d : ℕ) → Nearest n d z → Nearest (negℤ n) d (negℤ z)
 opposite n z d r =
     record {
@@ -71,6 +77,7 @@ opposite n z d r =
       half = λ e. rw (size-opposite n, size-opposite z) (r .half (sym (ap (λ (y : ℕ). 2 * y) (apart-opposite n z d)) ∙ e));
     }
 
+-- above zero
 module _ (n d : ℕ) (h : 0 < d) where
   above-nearest : Nearest (pos n) d (pos (nearest n d))
   above-nearest = go (decLe (nearest n d * d) n)
@@ -107,7 +114,7 @@ module _ (n d : ℕ) (h : 0 < d) where
       let e = ap (λ (y : ℤ). natAbs (pos n +ℤ y)) (negℤ-negℤ (pos (suc q * d))) in
       absurd (omega (arith, e, r .near, suc-mul q d))
 
--- THE ROUNDING LAW: the whole number given is nearest, on a half the one away from zero ..
+-- the rounding law: the whole number given is nearest, on a half the one away from zero ..
 pub away-nearest : (n : ℤ) (d : ℕ) → 0 < d → Nearest n d (awayFromZero n d)
 unfolding awayFromZero
 away-nearest (pos n) d h = above-nearest n d h

@@ -1,21 +1,21 @@
 -- o + k·x depends on the number alone, not on the fraction that it is written as; and its two ends:
 -- a number so near to zero that o is left, and whole numbers, which need no rounding.
-use mathlib.Core.Path.{_≡_, refl, sym, ap, _∙_, subst}
+use mathlib.Core.Path.{_≡_, sym, ap, _∙_}
 use mathlib.Core.Bool.{Bool, true, false}
 use Prim.Native.Nat.{ℕ, zero, suc, _+_, _-_, _*_, _≤_, _<_}
-use native.Mathlib.Nat.{mul-comm, mul-assoc, mul-one, mul-right-comm, add-mul, mul-sub, mul-pos, mul-le-mul-right, mul-lt-mul-of-pos-right, suc-mul, lt-of-not-le}
+use native.Mathlib.Nat.{mul-comm, mul-assoc, mul-right-comm, add-mul, mul-sub, mul-pos, mul-le-mul-right, mul-lt-mul-of-pos-right, suc-mul, lt-of-not-le}
 use native.Mathlib.Decide.{decLe}
 use native.Mathlib.Omega.{arith}
+use lib.Dec.{lit<}
 use lib.IntN.{ℤ, pos, _+ℤ_, _*ℤ_}
 use lib.Ieee.{Float, nan, inf, fin, up, down}
-use lib.Dec.{lit<}
 use lib.Ieee.Exact.{HasValue}
 use lib.Ieee.Fits.{down-pos}
 use Rattle.live.specs.Exact.{sided, numerator, denominator}
 use Rattle.live.specs.Nearest.{nearest, awayFromZero}
 use Rattle.live.specs.Live.{wholeOf}
-use Rattle.live.proofs.Sides.{times-sided, add-above, add-reaching, add-passing}
-use Rattle.live.proofs.Rounding.{Nearest, nearest-scale, nearest-one, nearest-only, away-sided, away-nearest, away-only}
+use Rattle.live.proofs.Sides.{times-sided, add-reaching, add-passing}
+use Rattle.live.proofs.Rounding.{Nearest, nearest-scale, nearest-only, away-sided, away-whole, away-nearest, away-only}
 
 sub-mul : (a b c : ℕ) → (a - b) * c ≡ a * c - b * c
 sub-mul a b c = mul-comm (a - b) c ∙ mul-sub c a b ∙ (λ i. mul-comm c a i - mul-comm c b i)
@@ -39,6 +39,7 @@ module _ (a b : ℕ) {d : ℕ} (h : 0 < d) where
   unfolding summed
   summed-passing r = rw (add-passing a b r) (away-sided true (b - a) h)
 
+-- the same sum over a larger bottom
 pub summed-scale : (a : ℕ) (s : Bool) (b : ℕ) {d c : ℕ} → 0 < d → 0 < c → summed (a * c) s (b * c) (d * c) ≡ summed a s b d
 summed-scale a false b {d} {c} hd hc =
     summed-above (a * c) (b * c) (mul-pos hd hc)
@@ -73,13 +74,13 @@ whole-of-value o k (fin t m e) s a {c} h v =
     crossed : k * (m * up e) * c ≡ k * a * down e
     crossed = mul-assoc k (m * up e) c ∙ ap (λ (n : ℕ). k * n) (v .1) ∙ sym (mul-assoc k a (down e))
 
--- the rounding law, of o + k·x: the whole number is the one nearest to it, and no other is
 denominator-pos : (x : Float) → 0 < denominator x
 unfolding denominator
 denominator-pos nan = lit< tt
 denominator-pos (inf s) = lit< tt
 denominator-pos (fin s m e) = down-pos e
 
+-- the rounding law, of o + k·x: the whole number is the one nearest to it, and no other is
 module _ (o k : ℕ) (x : Float) where
   pub whole-nearest : Nearest (pos (o * denominator x) +ℤ pos k *ℤ numerator x) (denominator x) (wholeOf o k x)
   unfolding wholeOf
@@ -109,12 +110,5 @@ summed-near o true b {d} h = go o (decLe b (o * d))
 
 -- a whole number needs no rounding
 pub summed-whole : (a : ℕ) (s : Bool) (b : ℕ) → summed a s b 1 ≡ pos a +ℤ sided s b
-summed-whole a false b = summed-above a b (lit< tt) ∙ ap pos (nearest-one (a + b))
-summed-whole a true b = go (decLe b a)
-  where
-    go : Dec (b ≤ a) → summed a true b 1 ≡ pos a +ℤ sided true b
-    go (yes r) = summed-reaching a b (lit< tt) r ∙ ap pos (nearest-one (a - b)) ∙ sym (add-reaching a b r)
-    go (no r) =
-        summed-passing a b (lit< tt) (lt-of-not-le r)
-        ∙ ap (sided true) (nearest-one (b - a))
-        ∙ sym (add-passing a b (lt-of-not-le r))
+unfolding summed
+summed-whole a s b = away-whole (pos a +ℤ sided s b)

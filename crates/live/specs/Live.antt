@@ -1,5 +1,5 @@
 -- 01, 'Live readings': a temperature and a pressure as singles, each to a whole number, and the refusals in the paper's order.
-use mathlib.Core.Bool.{Bool, true, false}
+use mathlib.Core.Bool.{Bool, false}
 use Prim.Native.Nat.{ℕ, _*_}
 use lib.IntN.{ℤ, pos, negsuc, _+ℤ_, _*ℤ_}
 use lib.Ieee.{Float}

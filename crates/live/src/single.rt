@@ -12,6 +12,11 @@ ghost use Rattle.live.specs.Nearest.{nearest};
 ghost use Rattle.live.specs.Live.{wholeOf, wholeIn, singleOf, singleTold};
 use refusals::Refusal;
 
+// 2^23, the weight of the field, and 2^31, the weight of the side of zero.
+const FIELD: u32 = 8388608;
+
+const SIDE: u32 = 2147483648;
+
 pub enum Judged {
     Within(i16),
     Refusing(Refusal),
@@ -30,7 +35,7 @@ fn raise_two(exponent: u32) -> u64
     1u64 << exponent
 }
 
-// A half counts as more than a half.
+// A half counts as more than a half, so that it goes up.
 fn round_half_up(top: u64, bottom: u64) -> u64
     requires { ⌜ (0 < bottom) × (bottom ≤ 2 ^ 40) ⌝ }
     ensures { λ r. ⌜ r ≡ nearest top bottom ⌝ }
@@ -74,7 +79,7 @@ fn round_scaled(bits: u32, offset: u16, times: u16) -> Sided
     requires { ⌜ bits / 8388608 % 256 < 150 ⌝ }
     ensures { λ r. ⌜ sided (r .below) (r .size) ≡ wholeOf offset times (ofBits binary32 bits) ⌝ }
 {
-    let field = bits / 8388608 % 256;
+    let field = bits / FIELD % 256;
     if field < 110 {
         return Sided {
             below: false,
@@ -82,10 +87,10 @@ fn round_scaled(bits: u32, offset: u16, times: u16) -> Sided
         };
     }
     let bottom = raise_two(150 - field);
-    let digits = 8388608 + bits % 8388608;
+    let digits = FIELD + bits % FIELD;
     let sum = add_sided(
         offset as u64 * bottom,
-        2147483648 <= bits,
+        SIDE <= bits,
         times as u64 * digits as u64,
     );
     let size = round_half_up(sum.size, bottom);
@@ -125,7 +130,7 @@ pub(crate) fn judge(x: f32, offset: u16, times: u16, low: i16, high: i16) -> Jud
         return Judged::Refusing(Refusal::ReadingNotFinite);
     }
     let bits = f32::to_bits(x);
-    let field = bits / 8388608 % 256;
+    let field = bits / FIELD % 256;
     if field == 255 {
         return Judged::Refusing(Refusal::ReadingNotFinite);
     }

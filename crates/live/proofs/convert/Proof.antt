@@ -1,20 +1,15 @@
 -- `live::convert` meets its contract: the temperature's answer comes first, then the pressure's; both whole numbers are the reading's.
 use mathlib.Core.Path.{_≡_, sym, ap, _∙_}
-use Prim.Native.Nat.{ℕ}
 use lib.IntN.{ℤ, pos, natAbs}
 use mir.Syntax.{w16}
-use mir.Val.{SFits, toZ, ofZ}
-use mir.ValLaws.{toZ-ofZ}
+use mir.Val.{toZ, ofZ}
 use native.Mathlib.Omega.{arith}
 use borrow.Author.Needs.{needs}
 use Rattle.refusals.specs.Told.{done}
-use Rattle.live.specs.Live.{told, singleTold, liveOf}
+use Rattle.live.specs.Live.{told, singleTold}
 use Rattle.live.proofs.Answers.{temperatureSingle, pressureSingle, live-temperature, live-pressure, live-done, pressure-unsigned}
 use Rattle.live.proofs.convert.Statement.{statement}
 use Rattle.live.proofs.convert.Tie as tie
-use Rattle.live.proofs.convert.Reads as reads
-use Rattle.live.proofs.convert.Lts as lts
-use Rattle.live.proofs.single.judge.Reads as judge-reads
 
 judge-requires : tie.Need-judge-requires
 judge-requires c κs = search needs

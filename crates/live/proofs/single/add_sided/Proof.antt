@@ -1,5 +1,5 @@
 -- `live::single::add_sided` meets its contract: a sum that stays above zero, comes down to it, or passes it.
-use mathlib.Core.Path.{_≡_, sym, ap, _∙_}
+use mathlib.Core.Path.{sym, ap, _∙_}
 use mathlib.Core.Bool.{Bool}
 use lib.IntN.{pos, _+ℤ_}
 use borrow.Author.Needs.{needs}

@@ -1,11 +1,7 @@
 -- `live::single::judge` meets its contract: the single is what its bits stand for, and each field's law answers its branch.
 use mathlib.Core.Path.{_≡_, sym, ap, _∙_, subst}
-use mathlib.Core.Bool.{Bool, true, false, not}
-use Prim.Native.Nat.{ℕ}
-use native.Mathlib.Omega.{arith}
 use lib.Dec.{T}
-use lib.Ieee as Ieee
-use lib.Ieee.{Float, nan, inf, fin, binary32, fits, isNan, ofBits, toBits}
+use lib.Ieee.{binary32, fits, ofBits, toBits}
 use lib.Ieee.Bits.{ofBits-toBits}
 use lib.Ieee.Scale.{finite}
 use mir.Syntax.{w16}

@@ -1,5 +1,5 @@
 -- `live::single::round_half_up` meets its contract: the whole part, and one more from a half on.
-use mathlib.Core.Path.{_≡_, sym}
+use mathlib.Core.Path.{sym}
 use Prim.Native.Nat.{_/_}
 use native.Mathlib.Nat.{mod-lt, mul-le-mul-left, div-add-mod'}
 use native.Mathlib.Omega.{arith}
@@ -26,10 +26,10 @@ add-result c =
     omega (arith, div-add-mod' (a .top) (a .bottom), mul-le-mul-left {m = 1} (a .top / a .bottom) (c .before .pre .0))
 
 returns : tie.Need-returns
-returns c = sym (nearest-up (c .before .args .top) (c .before .args .bottom) (c .before .pre .0) (c .if1 .taken))
+returns c = sym (nearest-up (c .before .args .top) (c .before .args .bottom) (c .before .pre .0) (omega arith))
 
 returns-2 : tie.Need-returns-2
-returns-2 c = sym (nearest-down (c .before .args .top) (c .before .args .bottom) (c .before .pre .0) (c .if1 .left))
+returns-2 c = sym (nearest-down (c .before .args .top) (c .before .args .bottom) (c .before .pre .0) (omega arith))
 
 pub round-half-up-spec : {M : Type 1} → statement M
 round-half-up-spec =

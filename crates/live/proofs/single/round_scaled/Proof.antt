@@ -1,5 +1,5 @@
 -- `live::single::round_scaled` meets its contract: under field 110 what is left is o; from there on the code goes by parts.
-use mathlib.Core.Path.{_≡_, sym, subst⁻¹}
+use mathlib.Core.Path.{sym, subst⁻¹}
 use Prim.Native.Nat.{ℕ, _+_, _-_, _*_, _%_, _^_, _≤_, _<_}
 use native.Mathlib.Omega.{arith}
 use lib.Pow.{pow-pos, pow-mono}
