@@ -2,7 +2,8 @@
 use mathlib.Core.Path.{_≡_, refl, sym, ap, _∙_}
 use mathlib.Core.Logic.{by-cases}
 use mathlib.Core.Bool.{true, false, cond}
-use Prim.Native.Nat.{ℕ, _+_, _*_, _-_, _^_, _<_, _≤_}
+use Prim.Native.Nat.{ℕ, zero, suc, _+_, _*_, _-_, _^_, _<_, _≤_}
+use native.Mathlib.Nat.{div-zero, le-mul-of-pos-right}
 use native.Mathlib.Omega.{arith}
 use native.Mathlib.Decide.{decLt}
 use borrow.Author.Tests.{lt-ltb, le-ltb, ne-eqb}
@@ -24,6 +25,12 @@ module _ (n : ℕ) {d : ℕ} (h : 0 < d) where
   -- all that a caller who knows its magnitudes needs
   pub value-below : (k : ℕ) → n ≤ k * d → k < 2 ^ 64 → valueOrZero (quotientOf n d) ≡ roundedDiv n d
   value-below k le fits = ap valueOrZero (is-value (omega (arith, at-most n k h le)))
+
+-- of one word, whatever the divisor: a quotient by zero counts as 0 on both sides
+pub value-of-word : (n d : ℕ) → n < 2 ^ 64 → valueOrZero (quotientOf n d) ≡ roundedDiv n d
+unfolding quotientOf roundedDiv
+value-of-word n zero fits = sym (div-zero (2 * n + 0))
+value-of-word n (suc d) fits = value-below n {d = suc d} (omega arith) n (le-mul-of-pos-right n (omega arith)) fits
 
 -- a value is the rounded quotient, and there is one only of a divisor above zero
 pub value-is : (n : ℕ) {d v : ℕ} → 0 < d → quotientOf n d ≡ Value v → v ≡ roundedDiv n d

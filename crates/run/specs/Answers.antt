@@ -1,13 +1,16 @@
 -- 01, 'Numbers given back', for one run: 3, 4, 5, then 7 and 8 on the rounded figures.
 use mathlib.Core.Bool.{Bool, _&&_}
+use mathlib.Core.List.{List}
 use Prim.Native.Nat.{ℕ}
+use lib.Dec.{eqb}
+use lib.ListN.{length}
 use Rattle.refusals.specs.Table.{numberOf, recordOf}
 use Rattle.refusals.specs.Told.{Told, done, refused, Fault, demand, demandAt, orElse, judged}
 use Rattle.ranges.specs.Table.{kFactorOk, volumeOk, runFactorOk}
 use Rattle.factors.specs.Metal.{metalOk}
 use Rattle.factors.specs.Answers.{pipeOk}
 use Rattle.factors.specs.declared.Prover.{Prover}
-use Rattle.run.specs.Record.{fieldsOk}
+use Rattle.run.specs.Record.{runAt, fieldsOk, unnamedOk}
 use Rattle.run.specs.Figures.{figuresOf}
 use Rattle.run.specs.declared.Run.{Run}
 use Rattle.run.specs.declared.Figures.{Figures as Sheet}
@@ -34,6 +37,18 @@ workedOf prover k run at =
     (figuresFault (figuresOf prover k run) at))))
     (figuresOf prover k run)
 
+-- one run shown from its record alone: 1 unless it has 32 bytes, 3, 4, then 5, 2, 7, 8 with record 1
+unfoldable pub shownOf : Prover → ℕ → List ℕ → Told Sheet
+shownOf prover k s =
+    judged
+    (orElse (demand (eqb (length s) 32) 1)
+    (orElse (demand (proverOk prover) 3)
+    (orElse (demand (kFactorOk k) 4)
+    (orElse (demandAt (fieldsOk (runAt s 0)) 5 1)
+    (orElse (demandAt (unnamedOk s 0) 2 1)
+    (figuresFault (figuresOf prover k (runAt s 0)) 1))))))
+    (figuresOf prover k (runAt s 0))
+
 -- what the answers tell: the figures or the factor, or the paper's number and record
 abbrev pub told : Worked → Told Sheet
 told (Figures figures) = done figures
@@ -44,6 +59,6 @@ toldFactor (Factor factor) = done factor
 toldFactor (NoFactor why) = refused (numberOf why) (recordOf why)
 
 -- the run factor of the figures
-abbrev pub pick : Told Sheet → Told ℕ
-pick (done figures) = done (figures .factor)
-pick (refused number at) = refused number at
+abbrev pub factorOnly : Told Sheet → Told ℕ
+factorOnly (done figures) = done (figures .factor)
+factorOnly (refused number at) = refused number at

@@ -25,36 +25,36 @@ steelCps prover run = rounded 4 (cps (run .prover .pressure) (prover .pipe .diam
 unfoldable pub liquidCpl : Side → ℕ
 liquidCpl side = rounded 4 (cpl (side .compressibility) (side .pressure))
 
--- 2. 'Prover factor from CTS, CPS, CTL and CPL at the prover'
-unfoldable pub proverFactor : Prover → Run → ℕ
-proverFactor prover run = rounded 4 (combined 4 (steelCts prover run ∷ steelCps prover run ∷ run .prover .ctl ∷ liquidCpl (run .prover) ∷ []))
+-- a side's combined factor, and its volume by that factor: 'corrected prover volume = base volume × prover factor',
+-- 'corrected meter volume = indicated volume × meter product'
+unfoldable pub correctedBy : ℕ → ℕ → List ℕ → Corrected
+correctedBy volume cpl factors =
+    record {
+      cpl = cpl;
+      factor = rounded 4 (combined 4 factors);
+      volume = rounded 4 (volume * rounded 4 (combined 4 factors) over 100000000);
+    }
 
--- 'meter factor product from CTL and CPL at the meter'
-unfoldable pub meterProduct : Run → ℕ
-meterProduct run = rounded 4 (combined 4 (run .meter .ctl ∷ liquidCpl (run .meter) ∷ []))
+-- 2. and 3. 'Prover factor from CTS, CPS, CTL and CPL at the prover', of the base volume
+unfoldable pub atProver : Prover → Run → Corrected
+atProver prover run = correctedBy (prover .base) (liquidCpl (run .prover)) (steelCts prover run ∷ steelCps prover run ∷ run .prover .ctl ∷ liquidCpl (run .prover) ∷ [])
 
--- 3. 'Corrected prover volume = base volume × prover factor. Corrected meter volume = indicated volume × meter product.'
-unfoldable pub correctedVolume : ℕ → ℕ → ℕ
-correctedVolume volume factor = rounded 4 (volume * factor over 100000000)
+-- 'meter factor product from CTL and CPL at the meter', of the indicated volume
+unfoldable pub atMeter : ℕ → Run → Corrected
+atMeter volume run = correctedBy volume (liquidCpl (run .meter)) (run .meter .ctl ∷ liquidCpl (run .meter) ∷ [])
 
 -- 4. 'Run factor = corrected prover volume ÷ corrected meter volume'
-unfoldable pub runFactor : ℕ → ℕ → ℕ
-runFactor prover meter = rounded 4 (prover over meter)
-
-unfoldable pub atProver : Prover → Run → Corrected
-atProver prover run = record { cpl = liquidCpl (run .prover); factor = proverFactor prover run; volume = correctedVolume (prover .base) (proverFactor prover run) }
-
-unfoldable pub atMeter : ℕ → Run → Corrected
-atMeter volume run = record { cpl = liquidCpl (run .meter); factor = meterProduct run; volume = correctedVolume volume (meterProduct run) }
-
--- all figures of a run, from the prover's settings and K
-unfoldable pub figuresOf : Prover → ℕ → Run → Figures
-figuresOf prover k run =
+unfoldable pub figuresFrom : Prover → Run → ℕ → Figures
+figuresFrom prover run volume =
     record {
-      indicated = indicated (run .pulses) k;
+      indicated = volume;
       cts = steelCts prover run;
       cps = steelCps prover run;
       prover = atProver prover run;
-      meter = atMeter (indicated (run .pulses) k) run;
-      factor = runFactor (atProver prover run .volume) (atMeter (indicated (run .pulses) k) run .volume)
+      meter = atMeter volume run;
+      factor = rounded 4 (atProver prover run .volume over atMeter volume run .volume);
     }
+
+-- all figures of a run, from the prover's settings and K
+unfoldable pub figuresOf : Prover → ℕ → Run → Figures
+figuresOf prover k run = figuresFrom prover run (indicated (run .pulses) k)

@@ -1,0 +1,161 @@
+-- `run::figure` meets its contract: every factor is its formula's value, and no product passes a word.
+use mathlib.Core.Bool.{true}
+use mathlib.Core.List.{List, [], _∷_}
+use mathlib.Core.Path.{_≡_, ap, sym, _∙_}
+use Prim.Native.Nat.{ℕ, _*_, _<_, _≤_}
+use native.Mathlib.Omega.{arith}
+use borrow.Author.Needs.{needs}
+use lib.IntN.{ℤ}
+use mir.Syntax.{w16}
+use mir.Val.{toZ, ofZ}
+use mir.ValLaws.{toZ-ofZ}
+use Rattle.exact.specs.Rounding.{rounded, _over_}
+use Rattle.factors.proofs.Values.{cts-value, cts-small, cps-value, cps-small}
+use Rattle.factors.specs.Answers.{ctsOf}
+use Rattle.factors.specs.Fractions.{combined}
+use Rattle.factors.specs.declared.Places.the-variants.{Four}
+use Rattle.run.proofs.Laws.{SideFits, side-fits, ctl-most, RunFits, run-fits, ProverFits, prover-fits, four-small, two-small}
+use Rattle.run.specs.Figures.{steelCts, steelCps, liquidCpl, correctedBy, atProver, atMeter, figuresFrom}
+use Rattle.run.proofs.figure.Statement.{statement}
+use Rattle.run.proofs.figure.Tie as tie
+
+cts-requires : tie.Need-cts-requires
+cts-requires c κs = search needs
+
+value-or-zero-requires : tie.Need-value-or-zero-requires
+value-or-zero-requires c κs = search needs
+
+cps-requires : tie.Need-cps-requires
+cps-requires c κs = search needs
+
+value-or-zero-requires-2 : tie.Need-value-or-zero-requires-2
+value-or-zero-requires-2 c κs = search needs
+
+abbrev start : tie.After-value-or-zero2 → tie.Start
+start c = c .before .before .before .before .before .before .before .before
+
+runs : (c : tie.After-value-or-zero2) → RunFits (start c .args .run)
+runs c = run-fits (start c .args .run) (start c .pre .1)
+
+provers : (c : tie.After-value-or-zero2) → ProverFits (start c .args .prover)
+provers c = prover-fits (start c .args .prover) (start c .pre .0)
+
+at-side : (c : tie.After-value-or-zero2) → SideFits (start c .args .run .prover)
+at-side c = side-fits (start c .args .run .prover) (runs c .prover)
+
+cts-is : (c : tie.After-value-or-zero2) → c .before .before .value-or-zero .result ≡ steelCts (start c .args .prover) (start c .args .run)
+unfolding steelCts
+cts-is c =
+    let f = c .before .before .before in
+    let a = start c .args in
+    let read : toZ w16 (ofZ w16 (a .run .prover .temperature)) ≡ a .run .prover .temperature = toZ-ofZ w16 (a .run .prover .temperature) (record { sfits = f .before .struct-told .given .0 .1 }) in
+    c .before .before .value-or-zero .ensures
+    ∙ cts-value (f .cts .result) Four (a .prover .metal) (a .run .prover .temperature) (f .cts .ensures ∙ ap (ctsOf 4 (a .prover .metal)) read) (provers c .metal) (at-side c .temperature)
+
+cts-most : (c : tie.After-value-or-zero2) → c .before .before .value-or-zero .result ≤ 20000
+unfolding steelCts
+cts-most c = omega (arith, cts-is c, cts-small Four (start c .args .prover .metal) (start c .args .run .prover .temperature) (provers c .metal) (at-side c .temperature))
+
+cps-is : (c : tie.After-value-or-zero2) → c .value-or-zero2 .result ≡ steelCps (start c .args .prover) (start c .args .run)
+unfolding steelCps
+cps-is c =
+    let a = start c .args in
+    c .value-or-zero2 .ensures ∙ cps-value (c .before .cps .result) Four (a .prover .pipe) (a .run .prover .pressure) (c .before .cps .ensures) (provers c .pipe) (at-side c .pressure)
+
+cps-most : (c : tie.After-value-or-zero2) → c .value-or-zero2 .result ≤ 20000
+unfolding steelCps
+cps-most c = omega (arith, cps-is c, cps-small Four (start c .args .prover .pipe) (start c .args .run .prover .pressure) (provers c .pipe) (at-side c .pressure))
+
+find-cpl-requires : tie.Need-find-cpl-requires
+find-cpl-requires c κs = run-fits (start c .args .run) (start c .pre .1) .prover
+
+cast-t18 : tie.Need-cast-t18
+cast-t18 c = search needs
+
+cast-correct : tie.Need-cast-correct
+cast-correct c = search needs
+
+slice-aggregate-correct : tie.Need-slice-aggregate-correct
+slice-aggregate-correct c = search needs
+
+correct-requires : tie.Need-correct-requires
+correct-requires c κs =
+    let v = c .before .before .before .before in
+    (provers v .base, omega arith, four-small _ _ _ _ (cts-most v) (cps-most v) (ctl-most (at-side v .ctl)) (c .before .before .before .find-cpl .ensures .1))
+
+abbrev side : tie.After-correct → tie.After-value-or-zero2
+side c = c .before .before .before .before .before
+
+find-cpl-requires-2 : tie.Need-find-cpl-requires-2
+find-cpl-requires-2 c κs = runs (side c) .meter
+
+cast-t18-2 : tie.Need-cast-t18-2
+cast-t18-2 c = search needs
+
+slice-aggregate-correct-2 : tie.Need-slice-aggregate-correct-2
+slice-aggregate-correct-2 c = search needs
+
+correct-requires-2 : tie.Need-correct-requires-2
+correct-requires-2 c κs =
+    let v = side (c .before .before .before) in
+    (start v .pre .2, omega arith, two-small _ _ (ctl-most (side-fits _ (runs v .meter) .ctl)) (c .before .before .find-cpl2 .ensures .1))
+
+cast-t19 : tie.Need-cast-t19
+cast-t19 c = search needs
+
+cast-t24 : tie.Need-cast-t24
+cast-t24 c = search needs
+
+round-requires : tie.Need-round-requires
+round-requires c κs = search needs
+
+prover-is : (c : tie.After-correct) → c .correct .result ≡ atProver (start (side c) .args .prover) (start (side c) .args .run)
+unfolding atProver
+prover-is c =
+    let a = start (side c) .args in
+    let cpl = c .before .before .before .before .find-cpl .ensures .0 in
+    c .correct .ensures .0 ∙ (λ i. correctedBy (a .prover .base) (cpl i) (cts-is (side c) i ∷ cps-is (side c) i ∷ a .run .prover .ctl ∷ cpl i ∷ []))
+
+meter-is : (c : tie.After-correct2) → c .correct2 .result ≡ atMeter (start (side (c .before .before .before .before)) .args .indicated) (start (side (c .before .before .before .before)) .args .run)
+unfolding atMeter
+meter-is c =
+    let a = start (side (c .before .before .before .before)) .args in
+    let cpl = c .before .before .before .find-cpl2 .ensures .0 in
+    c .correct2 .ensures .0 ∙ (λ i. correctedBy (a .indicated) (cpl i) (a .run .meter .ctl ∷ cpl i ∷ []))
+
+returns : tie.Need-returns
+unfolding figuresFrom
+returns c =
+    let p = c .before .before .before .before .before in
+    let factor = c .round .ensures ∙ (λ i. rounded 4 (prover-is p i .volume over meter-is (c .before) i .volume)) in
+    λ i.
+    record {
+      indicated = start (side p) .args .indicated;
+      cts = cts-is (side p) i;
+      cps = cps-is (side p) i;
+      prover = prover-is p i;
+      meter = meter-is (c .before) i;
+      factor = factor i;
+    }
+
+pub figure-spec : {M : Type 1} → statement M
+figure-spec =
+    tie.close
+    (tie.spec
+    cts-requires
+    value-or-zero-requires
+    cps-requires
+    value-or-zero-requires-2
+    find-cpl-requires
+    cast-t18
+    cast-correct
+    slice-aggregate-correct
+    correct-requires
+    find-cpl-requires-2
+    cast-t18-2
+    slice-aggregate-correct-2
+    correct-requires-2
+    cast-t19
+    cast-t24
+    round-requires
+    returns)
