@@ -2,12 +2,11 @@
 use mathlib.Core.Path.{_≡_, refl, sym, ap, _∙_}
 use mathlib.Core.Bool.{Bool, true, false, _&&_, and-false}
 use Prim.Native.Nat.{ℕ, _-_, _*_, _<_, _≤_}
-use native.Mathlib.Nat.{le-refl, mul-le-mul, sub-self}
+use native.Mathlib.Nat.{le-refl, mul-le-mul}
 use native.Mathlib.Omega.{arith}
 use borrow.Author.Tests.{le-leb, lt-leb}
-use lib.Dec.{leb}
 use Rattle.exact.specs.Rounding.{roundedDiv}
-use Rattle.exact.proofs.Rounding.{at-most, at-least, nearest-only}
+use Rattle.exact.proofs.Rounding.{at-most, nearest-only}
 use Rattle.refusals.specs.Told.{Told, done, refused, demand, judged}
 use Rattle.refusals.proofs.Laws.{refusal-one, done-one, refused-number, refused-record, judged-fine, judged-fault, demand-holds, demand-fails, orElse-next, orElse-first}
 use Rattle.ranges.proofs.Laws.{both-true}

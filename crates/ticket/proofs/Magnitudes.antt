@@ -1,7 +1,7 @@
 -- How large a ticket's figures get within the ranges, and the factor by one division.
 use mathlib.Core.Path.{_≡_, sym, ap, _∙_}
-use mathlib.Core.Bool.{true, _&&_}
-use Prim.Native.Nat.{ℕ, _-_, _*_, _<_, _≤_}
+use mathlib.Core.Bool.{true}
+use Prim.Native.Nat.{ℕ, _-_, _*_, _≤_}
 use native.Mathlib.Nat.{mul-one, mul-assoc, mul-le-mul}
 use native.Mathlib.Omega.{arith}
 use Rattle.exact.specs.Rounding.{roundedDiv, rounded}
@@ -10,7 +10,7 @@ use Rattle.ranges.specs.Table.{pressureOk, compressibilityOk, ctlOk}
 use Rattle.ranges.proofs.Laws.{both-first, both-second, within-high}
 use Rattle.factors.specs.Fractions.{combined, cpl}
 use Rattle.ticket.specs.Ranges.{readingOk, meterFactorOk, sedimentOk, suppliedOk, liquidOk, fieldsOk}
-use Rattle.ticket.specs.Formulas.{indicated, cplFrom, factor, gross, net}
+use Rattle.ticket.specs.Formulas.{indicated, cplFrom, factor, gross}
 use Rattle.ticket.specs.declared.Ticket.{Ticket}
 
 -- the upper ends of the ranges
@@ -43,24 +43,27 @@ pub factor-by-words : (t : Ticket) → roundedDiv (t .mf * t .ctl * cplFrom t) 1
 unfolding factor combined rounded
 factor-by-words t = sym (cancelled (t .mf * (t .ctl * (cplFrom t * 1))) 100000000 {c = 10000} (omega arith) ∙ ap (λ (n : ℕ). roundedDiv n 100000000) (simp (mul-one, mul-assoc)))
 
-module _ {t : Ticket} (w : Bounds t) where
+module _ {t : Ticket} (b : Bounds t) where
   pub cpl-small : cplFrom t ≤ 20000
   unfolding cplFrom rounded cpl
-  cpl-small = let product : t .compressibility * t .pressure ≤ 15000000 = mul-le-mul {n₂ = 10000} {m₂ = 1500} (w .compressibility) (w .pressure) in at-most 1000000000000 20000 (omega arith) (omega arith)
+  cpl-small = let product : t .compressibility * t .pressure ≤ 15000000 = mul-le-mul {n₂ = 10000} {m₂ = 1500} (b .compressibility) (b .pressure) in at-most 1000000000000 20000 (omega arith) (omega arith)
 
-  pub pair-small : t .mf * t .ctl ≤ 180000000
-  pair-small = mul-le-mul {n₂ = 12000} {m₂ = 15000} (w .mf) (w .ctl)
+  pub supplied-small : t .mf * t .ctl ≤ 180000000
+  supplied-small = mul-le-mul {n₂ = 12000} {m₂ = 15000} (b .mf) (b .ctl)
 
   pub product-small : t .mf * t .ctl * cplFrom t ≤ 36000 * 100000000
-  product-small = mul-le-mul {n₂ = 180000000} {m₂ = 20000} pair-small cpl-small
+  product-small = mul-le-mul {n₂ = 180000000} {m₂ = 20000} supplied-small cpl-small
 
   pub factor-small : factor t ≤ 36000
   factor-small = omega (arith, factor-by-words t, at-most (t .mf * t .ctl * cplFrom t) 36000 {d = 100000000} (omega arith) product-small)
 
   pub measured-small : indicated t * factor t ≤ 360000000 * 10000
   unfolding indicated
-  measured-small = mul-le-mul {n₂ = 100000000} {m₂ = 36000} (omega (arith, w .closing)) factor-small
+  measured-small = mul-le-mul {n₂ = 100000000} {m₂ = 36000} (omega (arith, b .closing)) factor-small
 
   pub gross-small : gross t ≤ 360000000
   unfolding gross
   gross-small = at-most (indicated t * factor t) 360000000 (omega arith) measured-small
+
+  pub kept-small : gross t * (100000 - t .sediment) ≤ 360000000 * 100000
+  kept-small = mul-le-mul {n₂ = 360000000} {m₂ = 100000} gross-small (omega arith)

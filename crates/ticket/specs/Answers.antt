@@ -1,5 +1,4 @@
 -- What a ticket answers, by the paper: 'A ticket: 10, 11.'
-use Prim.Native.Nat.{ℕ}
 use lib.Dec.{leb}
 use Rattle.refusals.specs.Table.{numberOf, recordOf}
 use Rattle.refusals.specs.Told.{Told, done, refused, demand, orElse, judged}

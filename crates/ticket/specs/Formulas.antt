@@ -1,5 +1,5 @@
 -- 01, 'Ticket': the formulas, each on the rounded figures before it; volumes in 0.01 barrel, factors in 0.0001.
-use mathlib.Core.List.{List, [], _∷_}
+use mathlib.Core.List.{[], _∷_}
 use Prim.Native.Nat.{ℕ, _-_, _*_}
 use Rattle.exact.specs.Rounding.{rounded, roundedDiv}
 use Rattle.factors.specs.Fractions.{combined, cpl}

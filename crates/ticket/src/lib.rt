@@ -63,9 +63,11 @@ fn correct(ticket: Ticket, cpl: u32) -> Volumes
     ensures { λ r. ⌜ r ≡ volumes ticket ⌝ }
 {
     let indicated = (ticket.closing - ticket.opening) as u64;
-    let factor = round(ticket.mf as u64 * ticket.ctl as u64, cpl as u64, 100000000);
+    let supplied = ticket.mf as u64 * ticket.ctl as u64;
+    let kept = 100000 - ticket.sediment as u64;
+    let factor = round(supplied, cpl as u64, 100000000);
     let gross = round(indicated, factor as u64, 10000);
-    let net = round(gross as u64, 100000 - ticket.sediment as u64, 100000);
+    let net = round(gross as u64, kept, 100000);
     Volumes { factor, gross, net }
 }
 

@@ -1,6 +1,6 @@
 -- `ticket::round` meets its contract: a quotient that 32 bits hold is a value.
 use mathlib.Core.Path.{_≡_, ap, _∙_}
-use Prim.Native.Nat.{ℕ, _*_}
+use Prim.Native.Nat.{_*_}
 use native.Mathlib.Omega.{arith}
 use borrow.Author.Needs.{needs}
 use Rattle.exact.specs.Rounding.{roundedDiv}

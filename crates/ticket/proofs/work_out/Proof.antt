@@ -1,13 +1,10 @@
 -- `ticket::work_out` meets its contract: CPL judges P and F, `fields_fit` the rest, and what is left is the paper's order.
 use mathlib.Core.Path.{_≡_, ap, sym, _∙_}
 use mathlib.Core.Bool.{true, false}
-use Prim.Native.Nat.{ℕ}
 use borrow.Author.Needs.{needs}
-use Rattle.refusals.specs.Told.{Told, done, refused}
+use Rattle.refusals.specs.Told.{done}
 use Rattle.factors.specs.Answers.{cplOf, told as told-factor}
-use Rattle.ticket.specs.Ranges.{suppliedOk, liquidOk, fieldsOk}
-use Rattle.ticket.specs.Formulas.{cplFrom}
-use Rattle.ticket.specs.Answers.{told, volumes}
+use Rattle.ticket.specs.Ranges.{fieldsOk}
 use Rattle.ticket.proofs.Laws.{field-refused, order-refused, worked-out, liquid-fits, liquid-value, liquid-refused, supplied-refused, fields-fit}
 use Rattle.ticket.proofs.work_out.Statement.{statement}
 use Rattle.ticket.proofs.work_out.Tie as tie
