@@ -7,7 +7,7 @@ use native.Mathlib.Omega.{arith}
 use borrow.Author.Tests.{le-leb, lt-leb}
 use Rattle.exact.specs.Rounding.{roundedDiv}
 use Rattle.exact.proofs.Rounding.{at-most, nearest-only}
-use Rattle.refusals.specs.Told.{Told, done, refused, demand, judged}
+use Rattle.refusals.specs.Told.{done, refused, demand, judged}
 use Rattle.refusals.proofs.Laws.{refusal-one, done-one, refused-number, refused-record, judged-fine, judged-fault, demand-holds, demand-fails, orElse-next, orElse-first}
 use Rattle.ranges.proofs.Laws.{both-true}
 use Rattle.factors.specs.Answers.{cplOf}
@@ -19,16 +19,26 @@ use Rattle.ticket.specs.declared.Volumes.{Volumes}
 use Rattle.ticket.specs.declared.Outcome.{Outcome}
 use Rattle.ticket.specs.declared.Outcome.the-variants.{Worked, Refused}
 
+module _ {A : Type 0} where
+  -- a result is no refusal
+  apart : {x : A} {n at : ℕ} → done x ≡ refused n at → ⊥
+  apart p = let z : _≡_ {A = ℕ} 0 1 = cc in omega arith
+
+  -- what an answer judged by one test shows of the test, and of its value
+  pub value-of-judged : (ok : Bool) (n : ℕ) (x y : A) → done x ≡ judged (demand ok n) y → (ok ≡ true) × (x ≡ y)
+  value-of-judged true n x y p = (refl, done-one p)
+  value-of-judged false n x y p = absurd (apart p)
+
+  pub refusal-of-judged : (ok : Bool) (n m at : ℕ) (y : A) → refused m at ≡ judged (demand ok n) y → ok ≡ false
+  refusal-of-judged true n m at y p = absurd (apart (sym p))
+  refusal-of-judged false n m at y p = refl
+
 -- two answers that tell the same are the same
 pub told-one : (r s : Outcome) → told r ≡ told s → r ≡ s
 told-one (Worked a) (Worked b) p = ap Worked (done-one p)
-told-one (Worked a) (Refused b) p = absurd (let z : _≡_ {A = ℕ} 0 1 = cc in omega arith)
-told-one (Refused a) (Worked b) p = absurd (let z : _≡_ {A = ℕ} 0 1 = cc in omega arith)
+told-one (Worked a) (Refused b) p = absurd (apart p)
+told-one (Refused a) (Worked b) p = absurd (apart (sym p))
 told-one (Refused a) (Refused b) p = ap Refused (refusal-one a b (refused-number {A = Volumes} p) (refused-record {A = Volumes} p))
-
--- so a ticket has one outcome
-pub one-outcome : (t : Ticket) (r s : Outcome) → told r ≡ ticketOf t → told s ≡ ticketOf t → r ≡ s
-one-outcome t r s p q = told-one r s (p ∙ sym q)
 
 module _ (t : Ticket) where
   -- 10 comes before 11
@@ -66,16 +76,6 @@ module _ (t : Ticket) where
   pub nothing-net : t .opening ≡ t .closing → net t ≡ 0
   nothing-net same = omega (arith, net-at-most, nothing-gross same)
 
--- what a factor's answer shows of its one test, and of its value
-pub value-of-judged : (ok : Bool) (n x y : ℕ) → _≡_ {A = Told ℕ} (done x) (judged (demand ok n) y) → (ok ≡ true) × (x ≡ y)
-value-of-judged true n x y p = (refl, done-one p)
-value-of-judged false n x y p = absurd (let z : _≡_ {A = ℕ} 0 1 = cc in omega arith)
-
-pub refusal-of-judged : (ok : Bool) (n m at y : ℕ) → _≡_ {A = Told ℕ} (refused m at) (judged (demand ok n) y) → ok ≡ false
-refusal-of-judged true n m at y p = absurd (let z : _≡_ {A = ℕ} 0 1 = cc in omega arith)
-refusal-of-judged false n m at y p = refl
-
-module _ (t : Ticket) where
   -- CPL has a value exactly where P and F are within their ranges
   pub liquid-fits : {x : ℕ} → done x ≡ cplOf 4 (t .compressibility) (t .pressure) → liquidOk t ≡ true
   unfolding cplOf liquidOk

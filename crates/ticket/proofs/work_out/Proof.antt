@@ -1,6 +1,7 @@
 -- `ticket::work_out` meets its contract: CPL judges P and F, `fields_fit` the rest, and what is left is the paper's order.
 use mathlib.Core.Path.{_≡_, ap, sym, _∙_}
 use mathlib.Core.Bool.{true, false}
+use native.Mathlib.Omega.{arith}
 use borrow.Author.Needs.{needs}
 use Rattle.refusals.specs.Told.{done}
 use Rattle.factors.specs.Answers.{cplOf, told as told-factor}
@@ -38,13 +39,13 @@ fits : (c : tie.Then1) → fieldsOk (start (c .before) .args .ticket) ≡ true
 fits c = fields-fit _ (sym (c .before .fields-fit .ensures) ∙ c .if1 .taken) (liquid-fits _ (cpl-told (c .before .before)))
 
 correct-requires : tie.Need-correct-requires
-correct-requires c κs = (fits (c .before .before), (c .if2 .taken, liquid-value _ (cpl-told (c .before .before .before .before))))
+correct-requires c κs = (fits (c .before .before), (omega arith, liquid-value _ (cpl-told (c .before .before .before .before))))
 
 returns-2 : tie.Need-returns-2
-returns-2 c = ap done (c .correct .ensures) ∙ sym (worked-out _ (fits (c .before .before .before)) (c .before .if2 .taken))
+returns-2 c = ap done (c .correct .ensures) ∙ sym (worked-out _ (fits (c .before .before .before)) (omega arith))
 
 returns-3 : tie.Need-returns-3
-returns-3 c = sym (order-refused _ (fits (c .before .before)) (c .if2 .left))
+returns-3 c = sym (order-refused _ (fits (c .before .before)) (omega arith))
 
 returns-4 : tie.Need-returns-4
 returns-4 c = sym (field-refused _ (supplied-refused _ (sym (c .before .fields-fit .ensures) ∙ c .if1 .left)))
