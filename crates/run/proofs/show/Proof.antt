@@ -65,7 +65,10 @@ judges c =
 
 returns-2 : tie.Need-returns-2
 unfolding shownOf
-returns-2 c = sym (judged-fault _ (orElse-next _ (sized (c .before .before .before .before .before .before)) ∙ unnamed _ _ _ _ _ (sym (judges (c .before)) ∙ c .if2 .taken)))
+returns-2 c =
+    let a = begin (c .before) .args in
+    let s = now (a .bytes) in
+    sym (judged-fault (figuresOf (a .prover) (a .k) (runAt s 0)) (orElse-next _ (sized (c .before .before .before .before .before .before)) ∙ unnamed (proverOk (a .prover)) (kFactorOk (a .k)) (fieldsOk (runAt s 0)) (unnamedOk s 0) (figuresFault (figuresOf (a .prover) (a .k) (runAt s 0)) 1) (sym (judges (c .before)) ∙ c .if2 .taken)))
 
 work-out-requires : tie.Need-work-out-requires
 work-out-requires c κs = search needs
@@ -74,9 +77,11 @@ returns-3 : tie.Need-returns-3
 unfolding shownOf workedOf
 returns-3 c =
     let d = c .before .before in
+    let a = begin d .args in
+    let s = now (a .bytes) in
     c .work-out .ensures
-    ∙ ap (λ (run : Run). workedOf (begin d .args .prover) (begin d .args .k) run 1) (d .before .before .before .before .decode .ensures)
-    ∙ ap (λ (f : Fault). judged f (figuresOf (begin d .args .prover) (begin d .args .k) (runAt (now (begin d .args .bytes)) 0))) (named _ _ _ _ _ (sym (judges d) ∙ c .before .if2 .left) ∙ sym (orElse-next _ (sized (d .before .before .before .before .before))))
+    ∙ ap (λ (run : Run). workedOf (a .prover) (a .k) run 1) (d .before .before .before .before .decode .ensures)
+    ∙ ap (λ (f : Fault). judged f (figuresOf (a .prover) (a .k) (runAt s 0))) (named (proverOk (a .prover)) (kFactorOk (a .k)) (fieldsOk (runAt s 0)) (unnamedOk s 0) (figuresFault (figuresOf (a .prover) (a .k) (runAt s 0)) 1) (sym (judges d) ∙ c .before .if2 .left) ∙ sym (orElse-next _ (sized (d .before .before .before .before .before))))
 
 pub show-spec : {M : Type 1} → statement M
 show-spec =

@@ -1,0 +1,4 @@
+pub mod Laws
+pub mod Magnitudes
+pub mod OneOutcome
+mod Figures

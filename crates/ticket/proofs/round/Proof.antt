@@ -1,0 +1,31 @@
+-- `ticket::round` meets its contract: a quotient that 32 bits hold is a value.
+use mathlib.Core.Path.{_≡_, ap, _∙_}
+use Prim.Native.Nat.{_*_}
+use native.Mathlib.Omega.{arith}
+use borrow.Author.Needs.{needs}
+use Rattle.exact.specs.Rounding.{roundedDiv}
+use Rattle.exact.specs.Quotient.{valueOrZero}
+use Rattle.exact.proofs.Rounding.{at-most}
+use Rattle.exact.proofs.Answers.{value-below}
+use Rattle.ticket.proofs.round.Statement.{statement}
+use Rattle.ticket.proofs.round.Tie as tie
+
+rounded-ratio-requires : tie.Need-rounded-ratio-requires
+rounded-ratio-requires c κs = search needs
+
+value-or-zero-requires : tie.Need-value-or-zero-requires
+value-or-zero-requires c κs = search needs
+
+value : (c : tie.After-value-or-zero) → c .value-or-zero .result ≡ roundedDiv (c .before .before .args .a * c .before .before .args .b) (c .before .before .args .d)
+value c =
+    let s = c .before .before in
+    c .value-or-zero .ensures ∙ ap valueOrZero (c .before .rounded-ratio .ensures) ∙ value-below (s .args .a * s .args .b) (s .pre .0) 4294967295 (s .pre .1) (omega arith)
+
+cast-result : tie.Need-cast-result
+cast-result c = let s = c .before .before in omega (arith, value c, at-most (s .args .a * s .args .b) 4294967295 (s .pre .0) (s .pre .1))
+
+returns : tie.Need-returns
+returns c = value c
+
+pub round-spec : {M : Type 1} → statement M
+round-spec = tie.close (tie.spec rounded-ratio-requires value-or-zero-requires cast-result returns)

@@ -1,0 +1,26 @@
+-- 01, 'Ticket': the formulas, each on the rounded figures before it; volumes in 0.01 barrel, factors in 0.0001.
+use mathlib.Core.List.{[], _∷_}
+use Prim.Native.Nat.{ℕ, _-_, _*_}
+use Rattle.exact.specs.Rounding.{rounded, roundedDiv}
+use Rattle.factors.specs.Fractions.{combined, cpl}
+use Rattle.ticket.specs.declared.Ticket.{Ticket}
+
+-- Indicated = closing - opening
+unfoldable pub indicated : Ticket → ℕ
+indicated t = t .closing - t .opening
+
+-- CPL (from the ticket's P and F), 4 places
+unfoldable pub cplFrom : Ticket → ℕ
+cplFrom t = rounded 4 (cpl (t .compressibility) (t .pressure))
+
+-- Factor = meter factor × CTL × CPL, 4 places
+unfoldable pub factor : Ticket → ℕ
+factor t = rounded 4 (combined 4 (t .mf ∷ t .ctl ∷ cplFrom t ∷ []))
+
+-- Gross standard = indicated × factor, to 0.01
+unfoldable pub gross : Ticket → ℕ
+gross t = roundedDiv (indicated t * factor t) 10000
+
+-- Net = gross × (100000 - S) ÷ 100000, to 0.01
+unfoldable pub net : Ticket → ℕ
+net t = roundedDiv (gross t * (100000 - t .sediment)) 100000

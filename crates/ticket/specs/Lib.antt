@@ -1,0 +1,3 @@
+pub mod Ranges
+pub mod Formulas
+pub mod Answers
