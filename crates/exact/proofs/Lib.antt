@@ -1,0 +1,5 @@
+pub mod Rounding
+pub mod Answers
+mod Columns
+mod Words
+mod Bits
