@@ -1,0 +1,3 @@
+pub mod Mean
+pub mod Record
+pub mod Judged

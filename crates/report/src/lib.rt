@@ -1,0 +1,172 @@
+// The report record of a job (01, 'Records'): 32 bytes, written and read back.
+use refusals::Refusal;
+ghost use mathlib.Core.Path.{_≡_};
+ghost use lib.ListN.{length};
+ghost use Rattle.ranges.specs.Table.{runFactorOk};
+ghost use Rattle.report.specs.Mean.{meanOf};
+ghost use Rattle.report.specs.Record.{listOf, fieldsOf, bytesOfReport};
+ghost use Rattle.report.specs.Judged.{factorsOk, jobOk, reportOk, writeOf, readOf, leftBy, told};
+
+// Five consecutive run factors, each in 0.0001.
+pub struct Factors {
+    pub one: u16,
+    pub two: u16,
+    pub three: u16,
+    pub four: u16,
+    pub five: u16,
+}
+
+pub struct Report {
+    // request number
+    pub number: u32,
+    // job factor, in 0.0001
+    pub factor: u16,
+    // first run used, from 1
+    pub first: u8,
+    // runs in job
+    pub runs: u8,
+    pub factors: Factors,
+}
+
+// A report as it was written or read, or why there is none.
+pub enum Answer {
+    Fields(Report),
+    Refused(Refusal),
+}
+
+// Writes the report of a job into the lent buffer: its factor is the mean of the five, rounded.
+pub fn write(number: u32, runs: u8, first: u8, factors: Factors, buffer: &mut [u8]) -> Answer
+    ensures answer { λ r. ⌜ told r ≡ writeOf (length (now (buffer .entry))) number runs first factors ⌝ }
+    ensures left { λ _. ⌜ now (buffer .exit) ≡ leftBy (writeOf (length (now (buffer .entry))) number runs first factors) (now (buffer .entry)) ⌝ }
+{
+    if buffer.len() != 32 {
+        return Answer::Refused(Refusal::ReportBuffer);
+    }
+    if number == 0 {
+        return Answer::Refused(Refusal::NumberZero);
+    }
+    if is_job(runs, first, factors) {
+        let report = Report {
+            number,
+            factor: mean(factors),
+            first,
+            runs,
+            factors,
+        };
+        let bytes = lay_out(report);
+        octets::write_at(&bytes, buffer, 0);
+        Answer::Fields(report)
+    } else {
+        Answer::Refused(Refusal::NotReport)
+    }
+}
+
+// Reads a report back.
+pub fn read(buffer: &[u8]) -> Answer
+    ensures { λ r. ⌜ told r ≡ readOf (now (buffer .entry)) ⌝ }
+{
+    if buffer.len() != 32 {
+        return Answer::Refused(Refusal::ReportBuffer);
+    }
+    let report = decode(buffer);
+    if is_report(report) & octets::are_zero(buffer, 18, 32) {
+        Answer::Fields(report)
+    } else {
+        Answer::Refused(Refusal::NotReport)
+    }
+}
+
+fn decode(s: &[u8]) -> Report
+    ensures { λ r. ⌜ r ≡ fieldsOf (now (s .entry)) ⌝ }
+{
+    let factors = Factors {
+        one: octets::word_at(s, 8),
+        two: octets::word_at(s, 10),
+        three: octets::word_at(s, 12),
+        four: octets::word_at(s, 14),
+        five: octets::word_at(s, 16),
+    };
+    Report {
+        number: octets::long_at(s, 0),
+        factor: octets::word_at(s, 4),
+        first: octets::byte_at(s, 6),
+        runs: octets::byte_at(s, 7),
+        factors,
+    }
+}
+
+fn lay_out(r: Report) -> [u8; 32]
+    ensures { λ b. ⌜ b ≡ bytesOfReport r ⌝ }
+{
+    let f = r.factors;
+    [
+        (r.number % 256) as u8,
+        (r.number / 256 % 256) as u8,
+        (r.number / 256 / 256 % 256) as u8,
+        (r.number / 256 / 256 / 256 % 256) as u8,
+        (r.factor % 256) as u8,
+        (r.factor / 256 % 256) as u8,
+        r.first,
+        r.runs,
+        (f.one % 256) as u8,
+        (f.one / 256 % 256) as u8,
+        (f.two % 256) as u8,
+        (f.two / 256 % 256) as u8,
+        (f.three % 256) as u8,
+        (f.three / 256 % 256) as u8,
+        (f.four % 256) as u8,
+        (f.four / 256 % 256) as u8,
+        (f.five % 256) as u8,
+        (f.five / 256 % 256) as u8,
+        0,
+        0,
+        0,
+        0,
+        0,
+        0,
+        0,
+        0,
+        0,
+        0,
+        0,
+        0,
+        0,
+        0,
+    ]
+}
+
+// No half can occur: twice a sum of five is even, and the divisor is odd.
+fn mean(f: Factors) -> u16
+    ensures { λ r. ⌜ r ≡ meanOf (listOf f) ⌝ }
+{
+    let sum = f.one as u32 + f.two as u32 + f.three as u32 + f.four as u32 + f.five as u32;
+    ((2 * sum + 5) / 10) as u16
+}
+
+fn is_factor(x: u16) -> bool
+    ensures { λ r. ⌜ r ≡ runFactorOk x ⌝ }
+{
+    ranges::is_within(x as u64, 8000, 12000)
+}
+
+fn are_factors(f: Factors) -> bool
+    ensures { λ r. ⌜ r ≡ factorsOk (listOf f) ⌝ }
+{
+    is_factor(f.one)
+        & (is_factor(f.two) & (is_factor(f.three) & (is_factor(f.four) & is_factor(f.five))))
+}
+
+fn is_job(runs: u8, first: u8, factors: Factors) -> bool
+    ensures { λ r. ⌜ r ≡ jobOk runs first (listOf factors) ⌝ }
+{
+    let last = first as u16 + 4;
+    ranges::is_within(runs as u64, 5, 20)
+        & (((1 <= first) & (last <= runs as u16)) & are_factors(factors))
+}
+
+fn is_report(r: Report) -> bool
+    ensures { λ b. ⌜ b ≡ reportOk r ⌝ }
+{
+    let factors = r.factors;
+    (r.number != 0) & (is_job(r.runs, r.first, factors) & (r.factor == mean(factors)))
+}
