@@ -61,21 +61,22 @@ pub fn write(number: u32, runs: u8, first: u8, factors: Factors, buffer: &mut [u
     }
 }
 
-// Reads a report back.
-pub fn read(buffer: &[u8]) -> Answer
-    ensures { λ r. ⌜ told r ≡ readOf (now (buffer .entry)) ⌝ }
+// Reads a report back from its bytes.
+pub fn read(bytes: &[u8]) -> Answer
+    ensures { λ r. ⌜ told r ≡ readOf (now (bytes .entry)) ⌝ }
 {
-    if buffer.len() != 32 {
+    if bytes.len() != 32 {
         return Answer::Refused(Refusal::ReportBuffer);
     }
-    let report = decode(buffer);
-    if is_report(report) & octets::are_zero(buffer, 18, 32) {
+    let report = decode(bytes);
+    if is_report(report) & octets::are_zero(bytes, 18, 32) {
         Answer::Fields(report)
     } else {
         Answer::Refused(Refusal::NotReport)
     }
 }
 
+// 01, 'Records': where each field stands.
 fn decode(s: &[u8]) -> Report
     ensures { λ r. ⌜ r ≡ fieldsOf (now (s .entry)) ⌝ }
 {
@@ -95,29 +96,37 @@ fn decode(s: &[u8]) -> Report
     }
 }
 
+// 01, 'Records': the same places; bytes not named are zero.
 fn lay_out(r: Report) -> [u8; 32]
     ensures { λ b. ⌜ b ≡ bytesOfReport r ⌝ }
 {
+    let number = octets::long_bytes(r.number);
+    let factor = octets::word_bytes(r.factor);
     let f = r.factors;
+    let one = octets::word_bytes(f.one);
+    let two = octets::word_bytes(f.two);
+    let three = octets::word_bytes(f.three);
+    let four = octets::word_bytes(f.four);
+    let five = octets::word_bytes(f.five);
     [
-        (r.number % 256) as u8,
-        (r.number / 256 % 256) as u8,
-        (r.number / 256 / 256 % 256) as u8,
-        (r.number / 256 / 256 / 256 % 256) as u8,
-        (r.factor % 256) as u8,
-        (r.factor / 256 % 256) as u8,
+        number[0],
+        number[1],
+        number[2],
+        number[3],
+        factor[0],
+        factor[1],
         r.first,
         r.runs,
-        (f.one % 256) as u8,
-        (f.one / 256 % 256) as u8,
-        (f.two % 256) as u8,
-        (f.two / 256 % 256) as u8,
-        (f.three % 256) as u8,
-        (f.three / 256 % 256) as u8,
-        (f.four % 256) as u8,
-        (f.four / 256 % 256) as u8,
-        (f.five % 256) as u8,
-        (f.five / 256 % 256) as u8,
+        one[0],
+        one[1],
+        two[0],
+        two[1],
+        three[0],
+        three[1],
+        four[0],
+        four[1],
+        five[0],
+        five[1],
         0,
         0,
         0,
@@ -135,7 +144,7 @@ fn lay_out(r: Report) -> [u8; 32]
     ]
 }
 
-// No half can occur: twice a sum of five is even, and the divisor is odd.
+// To the nearest whole number: no exact half can occur in a mean of five.
 fn mean(f: Factors) -> u16
     ensures { λ r. ⌜ r ≡ meanOf (listOf f) ⌝ }
 {
@@ -156,6 +165,7 @@ fn are_factors(f: Factors) -> bool
         & (is_factor(f.two) & (is_factor(f.three) & (is_factor(f.four) & is_factor(f.five))))
 }
 
+// What the writer and the reader both judge: runs, first run and factors.
 fn is_job(runs: u8, first: u8, factors: Factors) -> bool
     ensures { λ r. ⌜ r ≡ jobOk runs first (listOf factors) ⌝ }
 {

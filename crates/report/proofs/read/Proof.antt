@@ -19,7 +19,7 @@ unfolding isReport
 judged-by s r-is ok-is zeros-is t-is = sym (λ i. (ok-is ∙ ap reportOk r-is) i && zeros-is i) ∙ t-is
 
 returns : tie.Need-returns
-returns c = read-size (c .before .before .args .buffer .now) (c .if1 .taken)
+returns c = read-size (c .before .before .args .bytes .now) (c .if1 .taken)
 
 decode-requires : tie.Need-decode-requires
 decode-requires c κs = search needs
@@ -33,14 +33,14 @@ are-zero-requires c κs = search needs
 returns-2 : tie.Need-returns-2
 returns-2 c =
     let d = c .before .before .before in
-    let s = d .before .before .before .args .buffer .now in
+    let s = d .before .before .before .args .bytes .now in
     ap done (d .decode .ensures)
     ∙ read-yes s (d .before .if1 .left) (judged-by s (d .decode .ensures) (c .before .before .is-report .ensures) (c .before .are-zero .ensures) (c .if2 .taken))
 
 returns-3 : tie.Need-returns-3
 returns-3 c =
     let d = c .before .before .before in
-    let s = d .before .before .before .args .buffer .now in
+    let s = d .before .before .before .args .bytes .now in
     read-not s (d .before .if1 .left) (judged-by s (d .decode .ensures) (c .before .before .is-report .ensures) (c .before .are-zero .ensures) (c .if2 .left))
 
 pub read-spec : {M : Type 1} → statement M
