@@ -1,13 +1,13 @@
 -- 01, 'Figures': the report for request 7, written and read back.
 use mathlib.Core.Path.{_≡_, refl}
-use mathlib.Core.List.{List, [], _∷_, _++_}
+use mathlib.Core.List.{List, [], _∷_}
 use Prim.Native.Nat.{ℕ}
-use lib.ListN.{length, replicate}
+use lib.ListN.{replicate}
 use Rattle.exact.specs.Rounding.{roundedDiv}
 use Rattle.octets.specs.FirstToLast.{firstToLast}
 use Rattle.octets.specs.Octets.{numberAt, byteAt, wordAt, longAt, isZeroAt, zeroBetween, bytesOf}
 use Rattle.ranges.specs.Table.{runFactorOk, runsOk}
-use Rattle.refusals.specs.Told.{Told, done, refused}
+use Rattle.refusals.specs.Told.{done, refused}
 use Rattle.report.specs.Judged.{factorsOk, firstOk, jobOk, reportOk, isReport, reportOf, writeOf, readOf, leftBy}
 use Rattle.report.specs.Mean.{sumOf, meanOf}
 use Rattle.report.specs.Record.{listOf, fieldsOf, bytesOfReport}

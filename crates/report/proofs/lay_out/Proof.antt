@@ -1,5 +1,5 @@
 -- `report::lay_out` meets its contract: the bytes of each number, put together, are the record's list.
-use mathlib.Core.List.{List, [], _∷_, _++_}
+use mathlib.Core.List.{List, [], _∷_}
 use Prim.Native.Nat.{ℕ}
 use lib.ListN.{getD, replicate}
 use Rattle.octets.specs.Octets.{bytesOf}
