@@ -7,7 +7,7 @@ use native.Mathlib.Omega.{arith}
 use native.Mathlib.Decide.{decLt}
 use borrow.Author.Tests.{lt-ltb, le-ltb, ne-eqb}
 use Rattle.exact.specs.Rounding.{roundedDiv}
-use Rattle.exact.specs.Quotient.{quotientOf}
+use Rattle.exact.specs.Quotient.{quotientOf, valueOrZero}
 use Rattle.exact.specs.declared.Quotient.{Quotient}
 use Rattle.exact.specs.declared.Quotient.the-variants.{Value, ZeroDivisor, TooLarge}
 use Rattle.exact.proofs.Rounding.{at-most, at-least, keeps, goes-up}
@@ -22,8 +22,8 @@ module _ (n : ℕ) {d : ℕ} (h : 0 < d) where
   is-too-large over = rw (ne-eqb d 0 (λ z. omega arith), le-ltb (roundedDiv n d) (2 ^ 64) over)
 
   -- all that a caller who knows its magnitudes needs
-  pub value-below : (k : ℕ) → n ≤ k * d → k < 2 ^ 64 → quotientOf n d ≡ Value (roundedDiv n d)
-  value-below k le fits = is-value (omega (arith, at-most n k h le))
+  pub value-below : (k : ℕ) → n ≤ k * d → k < 2 ^ 64 → valueOrZero (quotientOf n d) ≡ roundedDiv n d
+  value-below k le fits = ap valueOrZero (is-value (omega (arith, at-most n k h le)))
 
 -- a value is the rounded quotient, and there is one only of a divisor above zero
 pub value-is : (n : ℕ) {d v : ℕ} → 0 < d → quotientOf n d ≡ Value v → v ≡ roundedDiv n d

@@ -2,7 +2,7 @@
 -- other whole number is; it goes by the fraction's value alone, and it is monotone in it.
 use mathlib.Core.Path.{_≡_, refl, sym, ap, _∙_}
 use Prim.Native.Nat.{ℕ, zero, suc, _+_, _*_, _/_, _^_, _<_, _≤_}
-use native.Mathlib.Nat.{mul-assoc, mul-comm, mul-left-comm, add-mul, one-mul, div-mul-le-self, lt-div-mul-add, div-eq-of-lt-le, lt-of-mul-lt-mul-right, mul-le-mul-right, mul-lt-mul-of-pos-right, mul-right-comm, le-antisymm, le-of-eq}
+use native.Mathlib.Nat.{mul-assoc, mul-comm, mul-left-comm, add-mul, one-mul, div-mul-le-self, lt-div-mul-add, div-eq-of-lt-le, lt-of-mul-lt-mul-right, mul-le-mul-right, mul-lt-mul-of-pos-right, mul-right-comm, le-antisymm, le-of-eq, mul-div-mul-right}
 use native.Mathlib.Omega.{arith}
 use Rattle.exact.specs.Rounding.{roundedDiv, Fraction, _over_, rounded}
 
@@ -58,6 +58,11 @@ at-most n k {d} h le = rounded-up {m = k} {e = 1} (nearest n h) (record { low = 
 
 pub at-least : (n k : ℕ) {d : ℕ} → 0 < d → k * d ≤ n → k ≤ roundedDiv n d
 at-least n k {d} h le = rounded-up {n = k} {d = 1} (record { low = omega arith; high = omega arith }) (nearest n h) (omega arith) h (omega arith)
+
+-- a factor of both may be cancelled
+pub cancelled : (n d : ℕ) {c : ℕ} → 0 < c → roundedDiv (n * c) (d * c) ≡ roundedDiv n d
+unfolding roundedDiv
+cancelled n d {c} h = ap (λ (m : ℕ). m / (2 * (d * c))) (ap (λ (m : ℕ). m + d * c) (sym (mul-assoc 2 n c)) ∙ sym (add-mul (2 * n) d c)) ∙ ap (λ (m : ℕ). (2 * n + d) * c / m) (sym (mul-assoc 2 d c)) ∙ mul-div-mul-right (2 * n + d) (2 * d) h
 
 module _ (d num den : ℕ) where
   -- the whole number of 10^-d nearest to num / den, halves up

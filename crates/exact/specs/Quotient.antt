@@ -8,3 +8,9 @@ use Rattle.exact.specs.Rounding.{roundedDiv}
 
 unfoldable pub quotientOf : ℕ → ℕ → Quotient
 quotientOf n d = cond (eqb d 0) ZeroDivisor (cond (ltb (roundedDiv n d) (2 ^ 64)) (Value (roundedDiv n d)) TooLarge)
+
+-- a quotient's value, and 0 where there is none
+abbrev pub valueOrZero : Quotient → ℕ
+valueOrZero (Value q) = q
+valueOrZero ZeroDivisor = 0
+valueOrZero TooLarge = 0

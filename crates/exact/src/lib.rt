@@ -3,7 +3,7 @@
 ghost use mathlib.Core.Path.{_≡_};
 ghost use Prim.Native.Nat.{_*_};
 ghost use Rattle.exact.specs.Words.{wideOf, valueOf};
-ghost use Rattle.exact.specs.Quotient.{quotientOf};
+ghost use Rattle.exact.specs.Quotient.{quotientOf, valueOrZero};
 
 mod divider;
 
@@ -65,4 +65,15 @@ pub fn rounded_ratio(a: u64, b: u64, d: u64) -> Quotient
     ensures { λ r. ⌜ r ≡ quotientOf (a * b) d ⌝ }
 {
     rounded_quotient(product(a, b), d)
+}
+
+// The quotient's value, and 0 where there is none: for a caller whose magnitudes rule that out.
+pub fn value_or_zero(quotient: Quotient) -> u64
+    ensures { λ r. ⌜ r ≡ valueOrZero quotient ⌝ }
+{
+    match quotient {
+        Quotient::Value(q) => q,
+        Quotient::ZeroDivisor => 0,
+        Quotient::TooLarge => 0,
+    }
 }

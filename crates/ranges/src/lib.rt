@@ -10,9 +10,9 @@ pub fn is_within(x: u64, lo: u64, hi: u64) -> bool
     lo <= x && x <= hi
 }
 
-// x is lo to hi, for the quantities that may be below zero.
-pub fn is_within_signed(x: i16, lo: i16, hi: i16) -> bool
-    ensures { λ r. ⌜ r ≡ withinSigned lo hi x ⌝ }
+// x is least to most, for the quantities that may be below zero.
+pub fn is_within_signed(x: i16, least: i16, most: i16) -> bool
+    ensures { λ r. ⌜ r ≡ withinSigned least most x ⌝ }
 {
-    lo <= x && x <= hi
+    least <= x && x <= most
 }

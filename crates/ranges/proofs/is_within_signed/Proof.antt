@@ -18,12 +18,12 @@ first-test rest fa fb is = ap (λ (t : Bool). t && rest) (sym is ∙ machine-tes
 returns : tie.Need-returns
 returns c =
     let a = c .before .fits in
-    machine-test (a .x) (a .hi) ∙ first-test _ (a .lo) (a .x) (c .if1 .taken)
+    machine-test (a .x) (a .most) ∙ first-test _ (a .least) (a .x) (c .if1 .taken)
 
 returns-2 : tie.Need-returns-2
 returns-2 c =
     let a = c .before .fits in
-    c .if1 .left ∙ first-test _ (a .lo) (a .x) (c .if1 .left)
+    c .if1 .left ∙ first-test _ (a .least) (a .x) (c .if1 .left)
 
 pub is-within-signed-spec : {M : Type 1} → statement M
 is-within-signed-spec = tie.close (tie.spec returns returns-2)

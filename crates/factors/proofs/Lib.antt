@@ -1,0 +1,5 @@
+pub mod Laws
+pub mod Combining
+pub mod Steel
+pub mod Values
+pub mod Figures

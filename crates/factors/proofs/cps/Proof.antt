@@ -1,0 +1,84 @@
+-- `factors::cps` meets its contract: within the ranges the pipe's stiffness E × WT is far above P × ID.
+use mathlib.Core.Path.{_≡_, ap, sym, _∙_}
+use mathlib.Core.Bool.{true}
+use native.Mathlib.Omega.{arith}
+use borrow.Author.Needs.{needs}
+use Rattle.refusals.proofs.Laws.{judged-fine, judged-fault, demand-holds, demand-fails, orElse-next, orElse-first}
+use Rattle.ranges.specs.Table.{pressureOk}
+use Rattle.factors.specs.Fractions.{cps}
+use Rattle.factors.specs.Answers.{told, pipeOk, cpsOf}
+use Rattle.factors.proofs.Steel.{Loads, loads}
+use Rattle.factors.proofs.cps.Statement.{statement}
+use Rattle.factors.proofs.cps.Tie as tie
+
+is-pipe-requires : tie.Need-is-pipe-requires
+is-pipe-requires c κs = search needs
+
+is-within-requires : tie.Need-is-within-requires
+is-within-requires c κs = search needs
+
+cast-stiffness : tie.Need-cast-stiffness
+cast-stiffness c = search needs
+
+cast-stiffness-2 : tie.Need-cast-stiffness-2
+cast-stiffness-2 c = search needs
+
+-- the code's tests are the paper's ranges
+pipe-fits : (c : tie.Then1) → pipeOk (c .before .before .args .pipe) ≡ true
+pipe-fits c = sym (c .before .is-pipe .ensures) ∙ c .if1 .taken
+
+judges-pressure : (c : tie.After-is-within) → c .is-within .result ≡ pressureOk (c .before .before .before .args .p)
+unfolding pressureOk
+judges-pressure c = c .is-within .ensures
+
+pressure-fits : (c : tie.Then2) → pressureOk (c .before .before .before .before .args .p) ≡ true
+pressure-fits c = sym (judges-pressure (c .before)) ∙ c .if2 .taken
+
+at-round : (c : tie.Then2) → Loads (c .before .before .before .before .args .pipe) (c .before .before .before .before .args .p)
+at-round c = loads (pipe-fits (c .before .before)) (pressure-fits c)
+
+mul-stiffness : tie.Need-mul-stiffness
+mul-stiffness c = omega (arith, at-round (c .before .before))
+
+cast-round : tie.Need-cast-round
+cast-round c = search needs
+
+mul-round : tie.Need-mul-round
+mul-round c = omega (arith, at-round (c .before .before .before))
+
+add-round : tie.Need-add-round
+add-round c = omega (arith, at-round (c .before .before .before))
+
+round-requires : tie.Need-round-requires
+round-requires c κs = omega (arith, at-round (c .before .before .before))
+
+returns : tie.Need-returns
+unfolding cpsOf cps
+returns c =
+    let d = c .before .before .before .before in
+    ap told (c .round .ensures) ∙ sym (judged-fine _ (orElse-next _ (demand-holds 3 (pipe-fits (d .before .before))) ∙ demand-holds 5 (pressure-fits d)))
+
+returns-2 : tie.Need-returns-2
+unfolding cpsOf
+returns-2 c = sym (judged-fault _ (orElse-next _ (demand-holds 3 (pipe-fits (c .before .before))) ∙ demand-fails 5 (sym (judges-pressure (c .before)) ∙ c .if2 .left)))
+
+returns-3 : tie.Need-returns-3
+unfolding cpsOf
+returns-3 c = sym (judged-fault _ (orElse-first _ (demand-fails 3 (sym (c .before .is-pipe .ensures) ∙ c .if1 .left))))
+
+pub cps-spec : {M : Type 1} → statement M
+cps-spec =
+    tie.close
+    (tie.spec
+    is-pipe-requires
+    is-within-requires
+    cast-stiffness
+    cast-stiffness-2
+    mul-stiffness
+    cast-round
+    mul-round
+    add-round
+    round-requires
+    returns
+    returns-2
+    returns-3)

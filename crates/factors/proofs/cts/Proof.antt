@@ -1,0 +1,138 @@
+-- `factors::cts` meets its contract: counted from -100.0 °F the temperature is a natural number, and the formula is the paper's.
+use mathlib.Core.Path.{_≡_, ap, sym, _∙_}
+use mathlib.Core.Bool.{Bool, true, false}
+use Prim.Native.Nat.{ℕ, _+_, _*_, _-_, _≤_}
+use native.Mathlib.Nat.{le-refl, mul-le-mul}
+use native.Mathlib.Omega.{arith}
+use borrow.Author.Needs.{needs}
+use lib.IntN.{pos, negsuc, natAbs, _+ℤ_, _-ℤ_, _*ℤ_}
+use mir.Syntax.{w16}
+use mir.Val.{toZ, ofZ}
+use mir.ValLaws.{toZ-ofZ}
+use Rattle.refusals.specs.Told.{done}
+use Rattle.exact.specs.Rounding.{rounded, _over_}
+use Rattle.refusals.proofs.Laws.{judged-fine, judged-fault, demand-holds, demand-fails, orElse-next, orElse-first}
+use Rattle.ranges.specs.Within.{withinSigned}
+use Rattle.ranges.specs.Table.{temperatureOk, coefficientOk}
+use Rattle.ranges.proofs.Laws.{within-high}
+use Rattle.factors.specs.Metal.{coefficientOf, metalOk}
+use Rattle.factors.specs.Places.{digits}
+use Rattle.factors.specs.Fractions.{cts}
+use Rattle.factors.specs.Answers.{told, ctsOf}
+use Rattle.factors.proofs.Steel.{Warm, warm, parts, sum-fits, cast-is, cast-fits}
+use Rattle.factors.proofs.cts.Statement.{statement}
+use Rattle.factors.proofs.cts.Tie as tie
+
+is-metal-requires : tie.Need-is-metal-requires
+is-metal-requires c κs = search needs
+
+is-within-signed-requires : tie.Need-is-within-signed-requires
+is-within-signed-requires c κs = search needs
+
+coefficient-requires : tie.Need-coefficient-requires
+coefficient-requires c κs = search needs
+
+cast-gc : tie.Need-cast-gc
+cast-gc c = search needs
+
+abbrev start : tie.Then2 → tie.Start
+start c = c .before .before .before .before
+
+-- the code's tests are the paper's ranges
+metal-fits : (c : tie.Then1) → metalOk (c .before .before .args .metal) ≡ true
+metal-fits c = sym (c .before .is-metal .ensures) ∙ c .if1 .taken
+
+judges-temperature : (c : tie.After-is-within-signed) → c .is-within-signed .result ≡ temperatureOk (c .before .before .before .args .t)
+unfolding temperatureOk
+judges-temperature c = let s = c .before .before .before in c .is-within-signed .ensures ∙ ap (withinSigned (negsuc 199) (pos 2000)) (toZ-ofZ w16 (s .args .t) (s .fits .t))
+
+temperature-fits : (c : tie.Then2) → temperatureOk (start c .args .t) ≡ true
+temperature-fits c = sym (judges-temperature (c .before)) ∙ c .if2 .taken
+
+small : (c : tie.Then2) → coefficientOf (start c .args .metal) ≤ 400
+unfolding metalOk coefficientOk
+small c = within-high 100 400 _ (metal-fits (c .before .before))
+
+warmth : (c : tie.Then2) → Warm (start c .args .t)
+warmth c = warm (start c .args .t) (temperature-fits c)
+
+-- the temperature and the coefficient as the code has them
+abbrev above : tie.Then2 → ℕ
+above c = natAbs (toZ w16 (ofZ w16 (toZ w16 (ofZ w16 (start c .args .t)) +ℤ pos 1000)))
+
+above-is : (c : tie.Then2) → above c ≡ warmth c .above
+above-is c = ap natAbs (cast-is (start c .fits .t) (warmth c))
+
+record Product (above gc : ℕ) : Type 0 where
+  most : above * gc ≤ 1200000
+  least : 800 * gc ≤ above * gc
+  coefficient : gc ≤ 400
+
+product : (c : tie.After-coefficient) → Product (above (c .before)) (c .coefficient .result)
+product c =
+    let w = warmth (c .before) in
+    let gc : c .coefficient .result ≤ 400 = omega (arith, c .coefficient .ensures, small (c .before)) in
+    record {
+      most = mul-le-mul {n₂ = 3000} {m₂ = 400} (omega (arith, above-is (c .before), w .high)) gc;
+      least = mul-le-mul {n₁ = 800} (omega (arith, above-is (c .before), w .low)) (le-refl (c .coefficient .result));
+      coefficient = gc;
+    }
+
+-- the code's numerator is the paper's
+numerator : (c : tie.After-coefficient) → 100000000 + above (c .before) * c .coefficient .result - 1600 * c .coefficient .result ≡ natAbs (pos 100000000 +ℤ (start (c .before) .args .t -ℤ pos 600) *ℤ pos (coefficientOf (start (c .before) .args .metal)))
+numerator c = (λ i. 100000000 + above-is (c .before) i * c .coefficient .ensures i - 1600 * c .coefficient .ensures i) ∙ sym (parts _ (small (c .before)) (warmth (c .before)))
+
+add-above : tie.Need-add-above
+add-above c = sum-fits (start (c .before) .fits .t) (warmth (c .before))
+
+cast-above : tie.Need-cast-above
+cast-above c = cast-fits (start (c .before) .fits .t) (warmth (c .before))
+
+mul-round : tie.Need-mul-round
+mul-round c = omega (arith, product c)
+
+add-round : tie.Need-add-round
+add-round c = omega (arith, product c)
+
+mul-round-2 : tie.Need-mul-round-2
+mul-round-2 c = search needs
+
+sub-round : tie.Need-sub-round
+sub-round c = omega (arith, product c)
+
+round-requires : tie.Need-round-requires
+round-requires c κs = omega (arith, product c)
+
+returns : tie.Need-returns
+unfolding ctsOf cts
+returns c =
+    ap told (c .round .ensures)
+    ∙ ap (λ (num : ℕ). done (rounded (digits (start (c .before .before) .args .places)) (num over 100000000))) (numerator (c .before))
+    ∙ sym (judged-fine _ (orElse-next _ (demand-holds 3 (metal-fits (c .before .before .before .before))) ∙ demand-holds 5 (temperature-fits (c .before .before))))
+
+returns-2 : tie.Need-returns-2
+unfolding ctsOf
+returns-2 c = sym (judged-fault _ (orElse-next _ (demand-holds 3 (metal-fits (c .before .before))) ∙ demand-fails 5 (sym (judges-temperature (c .before)) ∙ c .if2 .left)))
+
+returns-3 : tie.Need-returns-3
+unfolding ctsOf
+returns-3 c = sym (judged-fault _ (orElse-first _ (demand-fails 3 (sym (c .before .is-metal .ensures) ∙ c .if1 .left))))
+
+pub cts-spec : {M : Type 1} → statement M
+cts-spec =
+    tie.close
+    (tie.spec
+    is-metal-requires
+    is-within-signed-requires
+    coefficient-requires
+    cast-gc
+    add-above
+    cast-above
+    mul-round
+    add-round
+    mul-round-2
+    sub-round
+    round-requires
+    returns
+    returns-2
+    returns-3)

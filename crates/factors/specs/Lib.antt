@@ -1,0 +1,4 @@
+pub mod Metal
+pub mod Places
+pub mod Fractions
+pub mod Answers

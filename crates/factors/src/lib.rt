@@ -1,0 +1,225 @@
+// The correction factors of 01, 'Factors': CTS, CPS and CPL, each rounded once to 4 or 6 places,
+// and the combined factor of rounded factors. A factor is a whole number of its last place.
+ghost use mathlib.Core.Path.{_≡_};
+ghost use Prim.Native.Nat.{_*_, _≤_, _<_, _^_};
+ghost use lib.ListN.{length, getD};
+ghost use Rattle.exact.specs.Rounding.{rounded, _over_};
+ghost use Rattle.factors.specs.Metal.{coefficientOf, metalOk};
+ghost use Rattle.factors.specs.Places.{digits};
+ghost use Rattle.factors.specs.Answers.{told, valueOrZero, pipeOk, ctsOf, cpsOf, cplOf, heldBy, combinedOf, combinedOrZero};
+use exact::Quotient;
+use refusals::Refusal;
+
+// The prover's metal: one of the four named, or a certified cubical coefficient in 10^-7 per °F. A
+// certificate wins over the name.
+pub enum Metal {
+    MildCarbon,
+    Stainless304,
+    Stainless316,
+    // 17-4 PH
+    PrecipitationHardened,
+    Certified(u16),
+}
+
+// The pipe: inside diameter and wall in 0.001 inch, modulus of elasticity in psi.
+pub struct Pipe {
+    pub diameter: u32,
+    pub wall: u32,
+    pub modulus: u32,
+}
+
+// The prover's settings; the base volume is in 0.0001 barrel.
+pub struct Prover {
+    pub metal: Metal,
+    pub pipe: Pipe,
+    pub base: u32,
+}
+
+// Decimal places of a factor: four for proving and tickets, six for water draw.
+pub enum Places {
+    Four,
+    Six,
+}
+
+pub enum Factor {
+    Value(u32),
+    Refused(Refusal),
+}
+
+pub enum Combined {
+    Value(u64),
+    // more than four factors
+    TooMany,
+    // the combined factor has more than 64 bits
+    TooLarge,
+}
+
+// The metal's cubical coefficient in 10^-7 per °F.
+pub fn coefficient(metal: Metal) -> u16
+    ensures { λ r. ⌜ r ≡ coefficientOf metal ⌝ }
+{
+    match metal {
+        Metal::MildCarbon => 186,
+        Metal::Stainless304 => 288,
+        Metal::Stainless316 => 265,
+        Metal::PrecipitationHardened => 180,
+        Metal::Certified(gc) => gc,
+    }
+}
+
+// The metal's coefficient is in range, as a named metal's is.
+pub fn is_metal(metal: Metal) -> bool
+    ensures { λ r. ⌜ r ≡ metalOk metal ⌝ }
+{
+    ranges::is_within(coefficient(metal) as u64, 100, 400)
+}
+
+// The pipe's diameter, wall and modulus are in range.
+pub fn is_pipe(pipe: Pipe) -> bool
+    ensures { λ r. ⌜ r ≡ pipeOk pipe ⌝ }
+{
+    ranges::is_within(pipe.diameter as u64, 1000, 60000)
+        & (ranges::is_within(pipe.wall as u64, 100, 3000)
+            & ranges::is_within(pipe.modulus as u64, 10000000, 40000000))
+}
+
+// One, at so many places: 10^places.
+fn unit(places: Places) -> u64
+    ensures { λ r. ⌜ r ≡ 10 ^ digits places ⌝ }
+{
+    match places {
+        Places::Four => 10000,
+        Places::Six => 1000000,
+    }
+}
+
+// A fraction that is at most 2, rounded.
+fn round(num: u64, den: u64, places: Places) -> Factor
+    requires { ⌜ (0 < den) × (num ≤ 2 * den) ⌝ }
+    ensures { λ r. ⌜ r ≡ Factor.Value (rounded (digits places) (num over den)) ⌝ }
+{
+    Factor::Value(exact::value_or_zero(exact::rounded_ratio(num, unit(places), den)) as u32)
+}
+
+// The correction for the effect of temperature on steel, T in 0.1 °F.
+pub fn cts(t: i16, metal: Metal, places: Places) -> Factor
+    ensures { λ r. ⌜ told r ≡ ctsOf (digits places) metal t ⌝ }
+{
+    if is_metal(metal) {
+        if ranges::is_within_signed(t, -200, 2000) {
+            let gc = coefficient(metal) as u64;
+            // counted from -100.0 °F, so that no step is below zero
+            let above = (t + 1000) as u64;
+            return round(100000000 + above * gc - 1600 * gc, 100000000, places);
+        }
+        return Factor::Refused(Refusal::RecordField(0));
+    }
+    Factor::Refused(Refusal::ProverSetting)
+}
+
+// The correction for the effect of pressure on steel, P in psi gage.
+pub fn cps(p: u16, pipe: Pipe, places: Places) -> Factor
+    ensures { λ r. ⌜ told r ≡ cpsOf (digits places) pipe p ⌝ }
+{
+    if is_pipe(pipe) {
+        let pressure = p as u64;
+        if ranges::is_within(pressure, 0, 1500) {
+            let stiffness = pipe.modulus as u64 * pipe.wall as u64;
+            return round(
+                stiffness + pressure * pipe.diameter as u64,
+                stiffness,
+                places,
+            );
+        }
+        return Factor::Refused(Refusal::RecordField(0));
+    }
+    Factor::Refused(Refusal::ProverSetting)
+}
+
+// The correction for the effect of pressure on liquid, P in psi gage and F in 10^-8 per psi.
+pub fn cpl(p: u16, f: u16, places: Places) -> Factor
+    ensures { λ r. ⌜ told r ≡ cplOf (digits places) f p ⌝ }
+{
+    let pressure = p as u64;
+    let compressibility = f as u64;
+    if ranges::is_within(pressure, 0, 1500) & ranges::is_within(compressibility, 0, 10000) {
+        return round(100000000, 100000000 - compressibility * pressure, places);
+    }
+    Factor::Refused(Refusal::RecordField(0))
+}
+
+// The factor, and 0 where there is none: for a caller that has judged the ranges.
+pub fn value_or_zero(factor: Factor) -> u32
+    ensures { λ r. ⌜ r ≡ valueOrZero factor ⌝ }
+{
+    match factor {
+        Factor::Value(value) => value,
+        Factor::Refused(_) => 0,
+    }
+}
+
+// The factor at a place of the list, and one past its end.
+fn factor_at(factors: &[u32], i: usize) -> u64
+    ensures { λ r. ⌜ (r ≡ getD (now (factors .entry)) i 1) × (r < 2 ^ 32) ⌝ }
+{
+    if i < factors.len() {
+        factors[i] as u64
+    } else {
+        1
+    }
+}
+
+// What the product of so many factors is counted in, against the unit of one: 10^(places * (count - 1)).
+fn units_above_one(places: Places, count: usize) -> u64
+    requires { ⌜ (1 ≤ count) × (count ≤ 4) ⌝ }
+    ensures { λ r. ⌜ (r * 10 ^ digits places ≡ (10 ^ digits places) ^ count) × (0 < r) ⌝ }
+{
+    let one = unit(places);
+    if count <= 1 {
+        1
+    } else if count == 2 {
+        one
+    } else if count == 3 {
+        one * one
+    } else {
+        one * one * one
+    }
+}
+
+// A quotient as the combined factor; no count of units is zero.
+fn hold(quotient: Quotient) -> Combined
+    ensures { λ r. ⌜ r ≡ heldBy quotient ⌝ }
+{
+    match quotient {
+        Quotient::Value(q) => Combined::Value(q),
+        Quotient::ZeroDivisor => Combined::TooLarge,
+        Quotient::TooLarge => Combined::TooLarge,
+    }
+}
+
+// The combined factor: the exact product of the rounded factors, then one rounding.
+pub fn combine(factors: &[u32], places: Places) -> Combined
+    ensures { λ r. ⌜ r ≡ combinedOf (digits places) (now (factors .entry)) ⌝ }
+{
+    let count = factors.len();
+    if 4 < count {
+        return Combined::TooMany;
+    }
+    if count == 0 {
+        return Combined::Value(unit(places));
+    }
+    let first = factor_at(factors, 0) * factor_at(factors, 1);
+    let second = factor_at(factors, 2) * factor_at(factors, 3);
+    hold(exact::rounded_ratio(first, second, units_above_one(places, count)))
+}
+
+// The combined factor, and 0 where there is none: for a caller whose magnitudes rule that out.
+pub fn combined_or_zero(combined: Combined) -> u64
+    ensures { λ r. ⌜ r ≡ combinedOrZero combined ⌝ }
+{
+    match combined {
+        Combined::Value(value) => value,
+        Combined::TooMany => 0,
+        Combined::TooLarge => 0,
+    }
+}

@@ -1,0 +1,5 @@
+pub mod Gathering
+pub mod Bounds
+pub mod Means
+pub mod Groups
+pub mod Figures

@@ -1,0 +1,64 @@
+-- `group::add_up` meets its contract. The loop's invariant: the sum so far, with the values to come, is the sum of all; its upper word has
+-- carried at most once a value.
+use Prim.Native.Nat.{ℕ, _+_, _-_, _≤_}
+use mathlib.Core.Path.{_≡_, _∙_, ap}
+use mathlib.Core.List.{_∷_}
+use native.Mathlib.Omega.{arith}
+use lib.ListN.{length, getD, drop}
+use Rattle.exact.specs.Words.{valueOf}
+use Rattle.group.specs.Mean.{sumOf}
+use Rattle.group.proofs.Gathering.{sum-gathered, next, finished}
+use Rattle.group.proofs.add_up.Statement.{statement}
+use Rattle.group.proofs.add_up.Tie as tie
+
+abbrev Inv-loop : tie.InvT-loop
+Inv-loop values sum₀ i₀ sum i = (sumOf (valueOf sum ∷ drop i values) ≡ sumOf values) × (sum .hi ≤ i)
+
+abbrev μ-loop : tie.MeasureT-loop
+μ-loop values sum₀ i₀ sum i = length values - i
+
+loop-holds : tie.Need-loop-holds Inv-loop μ-loop
+unfolding valueOf sumOf
+loop-holds c = omega arith
+
+mul-add : tie.Need-mul-add Inv-loop μ-loop
+mul-add c = omega arith
+
+shared-slice-read-add : tie.Need-shared-slice-read-add Inv-loop μ-loop
+shared-slice-read-add c = omega arith
+
+add-requires : tie.Need-add-requires Inv-loop μ-loop
+add-requires c κs = omega arith
+
+add-i : tie.Need-add-i Inv-loop μ-loop
+add-i c = omega arith
+
+loop-less : tie.Need-loop-less Inv-loop μ-loop
+loop-less c = omega arith
+
+loop-again : tie.Need-loop-again Inv-loop μ-loop
+loop-again c =
+    let l = c .before .before .before .loop in
+    let xs = c .before .before .before .before .before .args .values .now in
+    let more : sumOf ((valueOf (l .sum) + getD xs (l .i) 0) ∷ drop (l .i + 1) xs) ≡ sumOf xs = next sum-gathered xs (l .i) (c .before .before .loop-test .taken) (l .inv .0) in
+    (ap (λ (n : ℕ). sumOf (n ∷ drop (l .i + 1) xs)) (c .add .ensures .0) ∙ more, omega arith)
+
+returns : tie.Need-returns Inv-loop μ-loop
+returns c =
+    let l = c .before .loop in
+    finished sum-gathered (c .before .before .before .args .values .now) (l .i) (c .loop-test .left) (l .inv .0)
+
+pub add-up-spec : {M : Type 1} → statement M
+add-up-spec =
+    tie.close
+    (tie.spec
+    Inv-loop
+    μ-loop
+    loop-holds
+    mul-add
+    shared-slice-read-add
+    add-requires
+    add-i
+    loop-less
+    loop-again
+    returns)

@@ -1,0 +1,89 @@
+-- `group::find_extremes` meets its contract. The loop's invariant: low and high, with the values to come, have the smallest and the largest of all.
+use Prim.Native.Nat.{ℕ, _+_, _-_}
+use mathlib.Core.Path.{_≡_, _∙_, ap}
+use mathlib.Core.List.{_∷_}
+use native.Mathlib.Omega.{arith}
+use borrow.Author.Needs.{needs}
+use lib.ListN.{length, drop}
+use Rattle.group.specs.Repeatability.{smallest, largest}
+use Rattle.group.proofs.Gathering.{smallest-gathered, largest-gathered, begun, next, finished}
+use Rattle.group.proofs.find_extremes.Statement.{statement}
+use Rattle.group.proofs.find_extremes.Tie as tie
+
+abbrev Inv-loop : tie.InvT-loop
+Inv-loop values low₀ high₀ i₀ low high i = (smallest (low ∷ drop i values) ≡ smallest values) × (largest (high ∷ drop i values) ≡ largest values)
+
+abbrev μ-loop : tie.MeasureT-loop
+μ-loop values low₀ high₀ i₀ low high i = length values - i
+
+shared-slice-read-low : tie.Need-shared-slice-read-low Inv-loop μ-loop
+shared-slice-read-low c = omega arith
+
+shared-slice-read-high : tie.Need-shared-slice-read-high Inv-loop μ-loop
+shared-slice-read-high c = omega arith
+
+loop-holds : tie.Need-loop-holds Inv-loop μ-loop
+loop-holds c =
+    let xs = c .before .before .before .args .values .now in
+    (begun smallest-gathered xs (c .before .before .before .pre), begun largest-gathered xs (c .before .before .before .pre))
+
+mul-lesser : tie.Need-mul-lesser Inv-loop μ-loop
+mul-lesser c = omega arith
+
+shared-slice-read-lesser : tie.Need-shared-slice-read-lesser Inv-loop μ-loop
+shared-slice-read-lesser c = omega arith
+
+lesser-requires : tie.Need-lesser-requires Inv-loop μ-loop
+lesser-requires c κs = search needs
+
+mul-greater : tie.Need-mul-greater Inv-loop μ-loop
+mul-greater c = omega arith
+
+shared-slice-read-greater : tie.Need-shared-slice-read-greater Inv-loop μ-loop
+shared-slice-read-greater c = omega arith
+
+greater-requires : tie.Need-greater-requires Inv-loop μ-loop
+greater-requires c κs = search needs
+
+add-i : tie.Need-add-i Inv-loop μ-loop
+add-i c = omega arith
+
+loop-less : tie.Need-loop-less Inv-loop μ-loop
+loop-less c = omega arith
+
+loop-again : tie.Need-loop-again Inv-loop μ-loop
+loop-again c =
+    let l = c .before .before .before .before .before .loop in
+    let xs = c .before .before .before .before .before .before .before .before .before .args .values .now in
+    let inside = c .before .before .before .before .loop-test .taken in (
+      ap (λ (n : ℕ). smallest (n ∷ drop (l .i + 1) xs)) (c .before .before .lesser .ensures)
+          ∙ next smallest-gathered xs (l .i) inside (l .inv .0),
+      ap (λ (n : ℕ). largest (n ∷ drop (l .i + 1) xs)) (c .greater .ensures)
+          ∙ next largest-gathered xs (l .i) inside (l .inv .1),
+    )
+
+returns : tie.Need-returns Inv-loop μ-loop
+returns c =
+    let l = c .before .loop in
+    let xs = c .before .before .before .before .before .args .values .now in
+    (finished smallest-gathered xs (l .i) (c .loop-test .left) (l .inv .0), finished largest-gathered xs (l .i) (c .loop-test .left) (l .inv .1))
+
+pub find-extremes-spec : {M : Type 1} → statement M
+find-extremes-spec =
+    tie.close
+    (tie.spec
+    Inv-loop
+    μ-loop
+    shared-slice-read-low
+    shared-slice-read-high
+    loop-holds
+    mul-lesser
+    shared-slice-read-lesser
+    lesser-requires
+    mul-greater
+    shared-slice-read-greater
+    greater-requires
+    add-i
+    loop-less
+    loop-again
+    returns)

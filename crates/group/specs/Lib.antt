@@ -1,0 +1,2 @@
+pub mod Repeatability
+pub mod Mean

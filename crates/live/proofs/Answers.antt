@@ -1,0 +1,105 @@
+-- What the two singles' answers make of the reading's, and that `told` loses nothing.
+use mathlib.Core.Path.{_≡_, refl, sym, ap, _∙_, subst}
+use mathlib.Core.Bool.{Bool, true, false}
+use Prim.Native.Nat.{ℕ, _≤_}
+use lib.Dec.{T}
+use lib.IntN.{ℤ, pos, negsuc, natAbs}
+use lib.Signed.{nonNeg}
+use lib.Ieee.{Float}
+use lib.Ieee.Scale.{finite}
+use Rattle.ranges.specs.Table.{temperatureOk, pressureOk}
+use Rattle.ranges.specs.Within.{withinSigned}
+use Rattle.ranges.proofs.Laws.{within-high}
+use Rattle.refusals.specs.Told.{Told, done, refused, Fault, fine, fault, demand, orElse, judged}
+use Rattle.refusals.proofs.Laws.{refusal-one, done-one, refused-number, refused-record, judged-fine, judged-fault, orElse-next, orElse-first}
+use Rattle.live.specs.declared.Live.{Live}
+use Rattle.live.specs.declared.Live.the-variants.{Whole, Refused}
+use Rattle.live.specs.Live.{tenthsOf, psiOf, psiOk, readingFault, temperatureFault, pressureFault, wholeOf, singleOf, liveOf, told}
+
+-- what was refused was a fault, and a result came of none
+refused-fault : {A : Type 0} (f : Fault) (x : A) (n at : ℕ) → judged f x ≡ refused n at → f ≡ fault n at
+refused-fault fine x n at p = cc
+refused-fault (fault m b) x n at p = cc
+
+done-fine : {A : Type 0} (f : Fault) (x y : A) → judged f x ≡ done y → f ≡ fine
+done-fine fine x y p = refl
+done-fine (fault m b) x y p = cc
+
+done-value : {A : Type 0} (f : Fault) (x y : A) → judged f x ≡ done y → x ≡ y
+done-value fine x y p = cc
+done-value (fault m b) x y p = cc
+
+-- the pressure's range as the code has it
+psi-range : (z : ℤ) → withinSigned (pos 0) (pos 1500) z ≡ psiOk z
+unfolding psiOk pressureOk
+psi-range (pos n) = refl
+psi-range (negsuc n) = refl
+
+-- the singles' answers, with the numbers and ranges of the paper
+abbrev pub temperatureSingle : Float → Told ℤ
+temperatureSingle = singleOf 0 10 (negsuc 199) (pos 2000)
+
+abbrev pub pressureSingle : Float → Told ℤ
+pressureSingle = singleOf 0 1 (pos 0) (pos 1500)
+
+temperature-is : (x : Float) → temperatureSingle x ≡ judged (temperatureFault x) (tenthsOf x)
+unfolding singleOf temperatureFault tenthsOf temperatureOk
+temperature-is x = refl
+
+pressure-is : (x : Float) → pressureSingle x ≡ judged (pressureFault x) (psiOf x)
+unfolding singleOf pressureFault psiOf
+pressure-is x = ap (λ (ok : Bool). judged (readingFault x ok) (wholeOf 0 1 x)) (psi-range (wholeOf 0 1 x))
+
+pub live-temperature : (t p : Float) {n at : ℕ} → temperatureSingle t ≡ refused n at → liveOf t p ≡ refused n at
+unfolding liveOf
+live-temperature t p {n} {at} is =
+    judged-fault _ (orElse-first (pressureFault p) (refused-fault (temperatureFault t) (tenthsOf t) n at (sym (temperature-is t) ∙ is)))
+
+module _ (t p : Float) {z : ℤ} (whole : temperatureSingle t ≡ done z) where
+  temperature-fine : temperatureFault t ≡ fine
+  temperature-fine = done-fine (temperatureFault t) (tenthsOf t) z (sym (temperature-is t) ∙ whole)
+
+  pub live-pressure : {n at : ℕ} → pressureSingle p ≡ refused n at → liveOf t p ≡ refused n at
+  unfolding liveOf
+  live-pressure {n} {at} is =
+      judged-fault _ (orElse-next (pressureFault p) temperature-fine ∙ refused-fault (pressureFault p) (psiOf p) n at (sym (pressure-is p) ∙ is))
+
+  pub live-done : {w : ℤ} → pressureSingle p ≡ done w → liveOf t p ≡ done (record { tenths = z; psi = w })
+  unfolding liveOf
+  live-done {w} is =
+      judged-fine _ (orElse-next (pressureFault p) temperature-fine ∙ done-fine (pressureFault p) (psiOf p) w (sym (pressure-is p) ∙ is))
+      ∙ (λ i. done (record { tenths = done-value (temperatureFault t) (tenthsOf t) z (sym (temperature-is t) ∙ whole) i; psi = done-value (pressureFault p) (psiOf p) w (sym (pressure-is p) ∙ is) i }))
+
+-- a pressure that was not refused is 0 to 1500, so that the cast to an unsigned number keeps it
+demand-fine : (t : Bool) (n : ℕ) → demand t n ≡ fine → t ≡ true
+demand-fine true n p = refl
+demand-fine false n p = cc
+
+after-fine : (f g : Fault) → orElse f g ≡ fine → g ≡ fine
+after-fine fine g p = p
+after-fine (fault n at) g p = cc
+
+pub record Unsigned (z : ℤ) : Type 0 where
+  pub above : T (nonNeg z)
+  pub small : natAbs z ≤ 1500
+  pub same : pos (natAbs z) ≡ z
+
+in-range : (z : ℤ) → psiOk z ≡ true → Unsigned z
+unfolding psiOk pressureOk
+in-range (pos n) h = record { above = tt; small = within-high 0 1500 n h; same = refl }
+in-range (negsuc n) h = absurd (subst T (sym h) tt)
+
+pub pressure-unsigned : (p : Float) {w : ℤ} → pressureSingle p ≡ done w → Unsigned w
+unfolding pressureFault readingFault
+pressure-unsigned p {w} is =
+    let whole : judged (pressureFault p) (psiOf p) ≡ done w = sym (pressure-is p) ∙ is in
+    subst Unsigned (done-value (pressureFault p) (psiOf p) w whole)
+    (in-range (psiOf p) (demand-fine (psiOk (psiOf p)) 13 (after-fine (demand (finite p) 12) (demand (psiOk (psiOf p)) 13) (done-fine (pressureFault p) (psiOf p) w whole))))
+
+-- `told` loses nothing: what is told names one answer
+pub told-one : (a b : Live) → told a ≡ told b → a ≡ b
+unfolding told
+told-one (Whole t p) (Whole u q) e = λ i. Whole (done-one e i .tenths) (natAbs (done-one e i .psi))
+told-one (Whole t p) (Refused r) e = cc
+told-one (Refused r) (Whole u q) e = cc
+told-one (Refused r) (Refused s) e = ap Refused (refusal-one r s (refused-number e) (refused-record e))
