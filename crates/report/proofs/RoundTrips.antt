@@ -9,7 +9,7 @@ use borrow.Author.Tests.{eqb-true, eqb-false, eq-eqb, not-true}
 use lib.Dec.{eqb}
 use lib.ListN.{length, getD, take, drop}
 use lib.Seq.{take-add, take-length, drop-cons}
-use Rattle.exact.proofs.Rounding.{at-most}
+use Rattle.group.proofs.Means.{mean-at-most}
 use Rattle.octets.specs.FirstToLast.{firstToLast}
 use Rattle.octets.specs.Octets.{byteAt, wordAt, longAt, isZeroAt, zeroBetween, bytesOf}
 use Rattle.octets.proofs.Laws.{Bytes, read-part, bytes-read, zero-part}
@@ -17,7 +17,7 @@ use Rattle.ranges.specs.Table.{runFactorOk, runsOk}
 use Rattle.ranges.proofs.Laws.{both-first, both-second, both-true, within-high}
 use Rattle.refusals.specs.Told.{Told, done, demand, orElse}
 use Rattle.report.specs.Judged.{factorsOk, firstOk, jobOk, reportOk, isReport, reportOf, writeOf, readOf, leftBy}
-use Rattle.report.specs.Mean.{sumOf, meanOf}
+use Rattle.group.specs.Mean.{meanOf}
 use Rattle.report.specs.Record.{listOf, fieldsOf, bytesOfReport}
 use Rattle.report.specs.declared.Factors.{Factors}
 use Rattle.report.specs.declared.Report.{Report}
@@ -26,9 +26,9 @@ use Rattle.report.proofs.Laws.{judged-done, orElse-fine, demand-fine, l
 -- ---- what is accepted, exactly
 
 -- a report is read back exactly when its 32 bytes are a report, and then as its fields
-pub read-only : {r : Report} (s : List ℕ) → readOf s ≡ done r → (length s ≡ 32) × (isReport s ≡ true) × (fieldsOf s ≡ r)
+pub read-accepts : {r : Report} (s : List ℕ) → readOf s ≡ done r → (length s ≡ 32) × (isReport s ≡ true) × (fieldsOf s ≡ r)
 unfolding readOf
-read-only s is =
+read-accepts s is =
     let size : Bool = eqb (length s) 32 in
     let found = judged-done (orElse (demand size 14) (demand (isReport s) 15)) is in
     let fine = orElse-fine (demand size 14) (demand (isReport s) 15) (found .0) in
@@ -75,9 +75,9 @@ rest-zero r = refl
 
 -- ---- writing, then reading
 
-pub write-only : {r : Report} (size number runs first : ℕ) (factors : Factors) → writeOf size number runs first factors ≡ done r → (size ≡ 32) × (not (eqb number 0) ≡ true) × (jobOk runs first (listOf factors) ≡ true) × (reportOf number runs first factors ≡ r)
+pub write-accepts : {r : Report} (size number runs first : ℕ) (factors : Factors) → writeOf size number runs first factors ≡ done r → (size ≡ 32) × (not (eqb number 0) ≡ true) × (jobOk runs first (listOf factors) ≡ true) × (reportOf number runs first factors ≡ r)
 unfolding writeOf
-write-only size number runs first factors is =
+write-accepts size number runs first factors is =
     let same : Bool = eqb size 32 in
     let some : Bool = not (eqb number 0) in
     let ok : Bool = jobOk runs first (listOf factors) in
@@ -93,21 +93,13 @@ factor-high [] ok k = omega arith
 factor-high (x ∷ xs) ok zero = within-high 8000 12000 x (both-first (runFactorOk x) (factorsOk xs) ok)
 factor-high (x ∷ xs) ok (suc k) = factor-high xs (both-second (runFactorOk x) (factorsOk xs) ok) k
 
-sum-high : (xs : List ℕ) → factorsOk xs ≡ true → sumOf xs ≤ 12000 * length xs
-unfolding runFactorOk factorsOk sumOf
-sum-high [] ok = omega arith
-sum-high (x ∷ xs) ok =
-    let first : x ≤ 12000 = within-high 8000 12000 x (both-first (runFactorOk x) (factorsOk xs) ok) in
-    let rest : sumOf xs ≤ 12000 * length xs = sum-high xs (both-second (runFactorOk x) (factorsOk xs) ok) in
-    omega arith
-
 -- the report of a job that may be written fits its places
 job-fits : (number runs first : ℕ) (factors : Factors) → number < 4294967296 → jobOk runs first (listOf factors) ≡ true → Fits (reportOf number runs first factors)
-unfolding jobOk reportOf meanOf listOf
+unfolding jobOk reportOf listOf
 job-fits number runs first factors h ok =
     let xs : List ℕ = listOf factors in
     let in-range : factorsOk xs ≡ true = both-second (firstOk first runs) (factorsOk xs) (both-second (runsOk runs) (firstOk first runs && factorsOk xs) ok) in
-    let mean : meanOf xs ≤ 12000 = at-most (sumOf xs) 12000 (omega arith) (sum-high xs in-range) in
+    let mean : meanOf xs ≤ 12000 = mean-at-most xs (omega arith) 12000 (λ k _. factor-high xs in-range k) in
     record {
       number = h;
       factor = omega arith;
@@ -134,7 +126,7 @@ report-back r fits ok =
 pub write-read : {r : Report} (number runs first : ℕ) (factors : Factors) (found : List ℕ) → number < 4294967296 → writeOf (length found) number runs first factors ≡ done r → readOf (leftBy (writeOf (length found) number runs first factors) found) ≡ done r
 unfolding leftBy
 write-read number runs first factors found h is =
-    let w = write-only (length found) number runs first factors is in
+    let w = write-accepts (length found) number runs first factors is in
     ap (λ (t : Told Report). readOf (leftBy t found)) (is ∙ ap done (sym (w .3)))
     ∙ report-back (reportOf number runs first factors) (job-fits number runs first factors h (w .2)) (job-report number runs first factors (w .1) (w .2))
     ∙ ap done (w .3)
@@ -195,7 +187,7 @@ read-writable r ok =
 pub read-write : {r : Report} (s found : List ℕ) → Bytes s → length found ≡ 32 → readOf s ≡ done r → leftBy (writeOf (length found) (r .number) (r .runs) (r .first) (r .factors)) found ≡ s
 unfolding leftBy isReport
 read-write {r} s found small long is =
-    let got = read-only s is in
+    let got = read-accepts s is in
     let whole = got .1 in
     let ok : reportOk r ≡ true = ap reportOk (sym (got .2)) ∙ both-first (reportOk (fieldsOf s)) (zeroBetween s 18 32) whole in
     ap (λ (n : ℕ). leftBy (writeOf n (r .number) (r .runs) (r .first) (r .factors)) found) long

@@ -3,7 +3,7 @@ use refusals::Refusal;
 ghost use mathlib.Core.Path.{_≡_};
 ghost use lib.ListN.{length};
 ghost use Rattle.ranges.specs.Table.{runFactorOk};
-ghost use Rattle.report.specs.Mean.{meanOf};
+ghost use Rattle.group.specs.Mean.{meanOf};
 ghost use Rattle.report.specs.Record.{listOf, fieldsOf, bytesOfReport};
 ghost use Rattle.report.specs.Judged.{factorsOk, jobOk, reportOk, writeOf, readOf, leftBy, told};
 

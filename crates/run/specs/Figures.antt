@@ -56,5 +56,5 @@ figuresOf prover k run =
       cps = steelCps prover run;
       prover = atProver prover run;
       meter = atMeter (indicated (run .pulses) k) run;
-      factor = runFactor (atProver prover run .volume) (atMeter (indicated (run .pulses) k) run .volume)
+      factor = runFactor (atProver prover run .volume) (atMeter (indicated (run .pulses) k) run .volume);
     }

@@ -13,7 +13,7 @@ runAt s at =
     record {
       pulses = longAt s at;
       prover = record { temperature = signedAt s (at + 4); pressure = wordAt s (at + 8); ctl = wordAt s (at + 12); compressibility = wordAt s (at + 16) };
-      meter = record { temperature = signedAt s (at + 6); pressure = wordAt s (at + 10); ctl = wordAt s (at + 14); compressibility = wordAt s (at + 18) }
+      meter = record { temperature = signedAt s (at + 6); pressure = wordAt s (at + 10); ctl = wordAt s (at + 14); compressibility = wordAt s (at + 18) };
     }
 
 unfoldable pub sideOk : Side → Bool

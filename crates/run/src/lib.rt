@@ -6,7 +6,8 @@ ghost use Rattle.exact.specs.Rounding.{roundedDiv};
 ghost use Rattle.run.specs.Record.{runAt, fieldsOk, unnamedOk};
 ghost use Rattle.run.specs.Figures.{indicated, correctedOf, figuresOf, chooses};
 ghost use Rattle.run.specs.Answers.{proverOk, workedOf, factorOf, told, toldFactor, pick};
-use factors::{Places, Prover};
+use factors::Places;
+use factors::Prover;
 use refusals::Refusal;
 
 // The readings at one side of the run: T in 0.1 °F, P in psi gage, CTL in 0.0001, F in 10^-8 per psi.

@@ -3,7 +3,7 @@ use mathlib.Core.Path.{_≡_, ap}
 use Prim.Native.Nat.{ℕ, _+_, _*_, _/_}
 use native.Mathlib.Omega.{arith}
 use Rattle.exact.specs.Rounding.{roundedDiv}
-use Rattle.report.specs.Mean.{sumOf, meanOf}
+use Rattle.group.specs.Mean.{sumOf, meanOf}
 use Rattle.report.specs.Record.{listOf}
 use borrow.Author.Needs.{needs}
 use Rattle.report.proofs.mean.Statement.{statement}
