@@ -3,7 +3,6 @@ use mathlib.Core.Path.{_≡_, refl, ap}
 use mathlib.Core.Bool.{Bool, true, false}
 use mathlib.Core.List.{List}
 use Prim.Native.Nat.{ℕ}
-use native.Mathlib.Omega.{arith}
 use borrow.Author.Tests.{eq-eqb, ne-eqb}
 use lib.ListN.{length}
 use Rattle.octets.specs.Octets.{bytesOf}
@@ -19,22 +18,22 @@ use Rattle.report.specs.declared.Report.{Report}
 -- two answers that tell the same are the same
 pub told-one : (a b : Answer) → told a ≡ told b → a ≡ b
 told-one (Fields r) (Fields s) is = ap Fields (done-one is)
-told-one (Fields r) (Refused why) is = let z : _≡_ {A = ℕ} 0 1 = cc in absurd (omega arith)
-told-one (Refused why) (Fields r) is = let z : _≡_ {A = ℕ} 0 1 = cc in absurd (omega arith)
+told-one (Fields r) (Refused why) is = cc
+told-one (Refused why) (Fields r) is = cc
 told-one (Refused why) (Refused y) is = ap Refused (refusal-one why y (refused-number is) (refused-record is))
 
 -- a result stands only where no fault was found, and no fault only where each demand holds
 pub judged-done : {A : Type 0} {x y : A} (f : Fault) → judged f x ≡ done y → (f ≡ fine) × (x ≡ y)
 judged-done fine is = (refl, done-one is)
-judged-done (fault number at) is = let z : _≡_ {A = ℕ} 0 1 = cc in absurd (omega arith)
+judged-done (fault number at) is = ((cc), (cc))
 
 pub orElse-fine : (f g : Fault) → orElse f g ≡ fine → (f ≡ fine) × (g ≡ fine)
 orElse-fine fine g is = (refl, is)
-orElse-fine (fault number at) g is = let z : _≡_ {A = ℕ} 0 1 = cc in absurd (omega arith)
+orElse-fine (fault number at) g is = ((cc), (cc))
 
 pub demand-fine : (t : Bool) (number : ℕ) → demand t number ≡ fine → t ≡ true
 demand-fine true number is = refl
-demand-fine false number is = let z : _≡_ {A = ℕ} 0 1 = cc in absurd (omega arith)
+demand-fine false number is = cc
 
 pub length-report : (r : Report) → length (bytesOfReport r) ≡ 32
 unfolding bytesOf bytesOfReport
