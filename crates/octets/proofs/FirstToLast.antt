@@ -129,7 +129,7 @@ scan-hit f n i h is at = hit faults f n i h (rw is (λ y. refl)) at ∙ is
 
 -- the fault found is the one at the least place, and every earlier place is fine
 pub scan-least : {number at : ℕ} (f : ℕ → Fault) (n i : ℕ) → scan f n i ≡ fault number at → Least fine f n i (fault number at)
-scan-least f n i is = least faults f n i is (λ no. let z : _≡_ {A = ℕ} 0 1 = cc in omega arith)
+scan-least f n i is = least faults f n i is (λ is-fine. let z : _≡_ {A = ℕ} 0 1 = cc in omega arith)
 
 -- ---- each place passes a test
 
@@ -163,10 +163,10 @@ place-no test k is = rw is
 -- a place is given exactly by a test that holds there
 given-yes : (b : Bool) (p k : ℕ) → _≡_ {A = Option ℕ} (cond b (some p) none) (some k) → (b ≡ true) × (p ≡ k)
 given-yes true p k is = (refl, (cc))
-given-yes false p k is = let z : _≡_ {A = ℕ} 0 1 = cc in absurd (omega arith)
+given-yes false p k is = ((cc), (cc))
 
 given-no : (b : Bool) (p : ℕ) → _≡_ {A = Option ℕ} (cond b (some p) none) none → b ≡ false
-given-no true p is = let z : _≡_ {A = ℕ} 0 1 = cc in absurd (omega arith)
+given-no true p is = cc
 given-no false p is = refl
 
 pub place-next : {x : Option ℕ} (test : ℕ → Bool) (n i : ℕ) → i < n → test i ≡ false → x ≡ firstPlace test (n - i) i → x ≡ firstPlace test (n - (i + 1)) (i + 1)
@@ -185,7 +185,7 @@ pub record First (test : ℕ → Bool) (n i k : ℕ) : Type 0 where
 pub place-first : {k : ℕ} (test : ℕ → Bool) (n i : ℕ) → firstPlace test n i ≡ some k → First test n i k
 unfolding placeIf
 place-first {k} test n i is =
-    let at : Least none (placeIf test) n i (some k) = least places (placeIf test) n i is (λ none-is. let z : _≡_ {A = ℕ} 0 1 = cc in omega arith) in
+    let at : Least none (placeIf test) n i (some k) = least places (placeIf test) n i is (λ is-none. let z : _≡_ {A = ℕ} 0 1 = cc in omega arith) in
     let here : (test (at .place) ≡ true) × (at .place ≡ k) = given-yes (test (at .place)) (at .place) k (at .gives) in
     record { from = omega arith; below = omega arith; passes = ap test (sym (here .1)) ∙ here .0; before = λ j l h. given-no (test j) j (at .before j l (omega arith)) }
 

@@ -1,15 +1,15 @@
 -- The laws of numbers in bytes, once over the count of bytes.
 use mathlib.Core.Path.{_≡_, refl, sym, _∙_, ap}
 use mathlib.Core.Bool.{true}
-use mathlib.Core.List.{List, [], _∷_, _++_, append-assoc}
+use mathlib.Core.List.{List, [], _∷_, _++_, append-assoc, append-nil}
 use Prim.Native.Nat.{ℕ, zero, suc, _+_, _*_, _-_, _/_, _%_, _^_, _≤_, _<_}
 use native.Mathlib.Nat.{add-assoc, pow-succ'}
 use native.Mathlib.Numerals.{add-one}
 use native.Mathlib.Omega.{arith}
 use borrow.Author.Tests.{lt-ltb, le-ltb, le-leb, lt-leb, eqb-true, eq-eqb}
 use lib.IntN.{pos, negsuc}
-use lib.ListN.{length, getD, take, drop, length-append, List·getD-eq-default}
-use lib.Seq.{getD-append-seam, append-snoc, drop-cons}
+use lib.ListN.{length, getD, take, drop, replicate, length-append, length-drop, length-replicate, getD-replicate, take-append-drop, drop-of-length-le, List·getD-eq-default}
+use lib.Seq.{getD-append-seam, append-snoc, drop-cons, length-take-le, getD-take, getD-drop, ext-getD}
 use Rattle.octets.specs.Octets.{numberAt, byteAt, wordAt, longAt, signedOf, isZeroAt, zeroBetween, bytesOf, writtenAt}
 use Rattle.octets.proofs.FirstToLast.{tests, empty, nowhere}
 
@@ -60,6 +60,14 @@ read-written a t (suc n) x h =
     let moved : numberAt n (a ++ (b ∷ rest) ++ t) (length a + 1) ≡ x / 256 = (λ i. numberAt n (same i) (longer i)) ∙ later in
     omega arith
 
+-- the same, where a part of the list is known to be the number's bytes
+pub read-part : (n x : ℕ) (s : List ℕ) (at : ℕ) → x < 256 ^ n → at ≤ length s → take n (drop at s) ≡ bytesOf n x → numberAt n s at ≡ x
+read-part n x s at h l part =
+    let rest : List ℕ = drop n (drop at s) in
+    let split : take at s ++ bytesOf n x ++ rest ≡ s = append-assoc (take at s) (bytesOf n x) rest ∙ ap (λ (p : List ℕ). take at s ++ (p ++ rest)) (sym part) ∙ ap (λ (p : List ℕ). take at s ++ p) (take-append-drop n (drop at s)) ∙ take-append-drop at s in
+    let place : length (take at s) ≡ at = length-take-le at s l in
+    sym (λ i. numberAt n (split i) (place i)) ∙ read-written (take at s) rest n x h
+
 -- the bytes of a number that was read are the bytes read
 pub bytes-read : (n : ℕ) (s : List ℕ) (at : ℕ) → Bytes s → at + n ≤ length s → bytesOf n (numberAt n s at) ≡ take n (drop at s)
 unfolding numberAt bytesOf
@@ -99,6 +107,15 @@ pub zero-all : (s : List ℕ) (a b : ℕ) → ((k : ℕ) → a ≤ k → k < b �
 unfolding zeroBetween isZeroAt
 zero-all s a b each = nowhere tests (isZeroAt s) (b - a) a (λ k l h. eq-eqb (getD s k 0) 0 (each k l (omega arith)))
 
+-- zero bytes as a part of the list
+pub zero-part : (s : List ℕ) (a n : ℕ) → a + n ≤ length s → zeroBetween s a (a + n) ≡ true → take n (drop a s) ≡ replicate n 0
+zero-part s a n h zeros =
+    let long : length (take n (drop a s)) ≡ n = length-take-le n (drop a s) (simp length-drop (omega arith)) in
+    ext-getD 0 (take n (drop a s)) (replicate n 0) (long ∙ sym (length-replicate n 0))
+    (λ i l.
+    let below : i < n = omega arith in
+    getD-take n (drop a s) i 0 below ∙ getD-drop a s i 0 ∙ zero-each s a (a + n) zeros (a + i) (omega arith) (omega arith) ∙ sym (getD-replicate n i 0 0 below))
+
 -- bytes that fit are written, and others are not
 pub written-fits : (to : List ℕ) (at : ℕ) (bytes : List ℕ) → at + length bytes ≤ length to → writtenAt to at bytes ≡ take at to ++ bytes ++ drop (at + length bytes) to
 unfolding writtenAt
@@ -107,3 +124,9 @@ written-fits to at bytes h = rw (le-leb (at + length bytes) (length to) h)
 pub written-not : (to : List ℕ) (at : ℕ) (bytes : List ℕ) → length to < at + length bytes → writtenAt to at bytes ≡ to
 unfolding writtenAt
 written-not to at bytes h = rw (lt-leb (at + length bytes) (length to) h)
+
+-- as many bytes as there are take the place of all
+pub written-whole : (to bytes : List ℕ) → length bytes ≡ length to → writtenAt to 0 bytes ≡ bytes
+written-whole to bytes h =
+    let past : length to ≤ 0 + length bytes = omega arith in
+    written-fits to 0 bytes (omega arith) ∙ ap (λ (l : List ℕ). bytes ++ l) (drop-of-length-le to past) ∙ append-nil bytes

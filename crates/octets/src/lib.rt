@@ -1,7 +1,7 @@
 // Numbers in bytes, little-endian (01, 'Records'). Every read is total: a byte past the end reads as 0,
 // so that a decoder above needs no test of its own.
 ghost use mathlib.Core.Path.{_≡_};
-ghost use Rattle.octets.specs.Octets.{byteAt, wordAt, longAt, signedAt, zeroBetween, writtenAt};
+ghost use Rattle.octets.specs.Octets.{byteAt, wordAt, longAt, signedAt, zeroBetween, bytesOf, writtenAt};
 
 pub fn byte_at(s: &[u8], at: usize) -> u8
     ensures { λ r. ⌜ r ≡ byteAt (now (s .entry)) at ⌝ }
@@ -61,6 +61,24 @@ pub fn are_zero(s: &[u8], a: usize, b: usize) -> bool
         i += 1;
     }
     true
+}
+
+pub fn word_bytes(x: u16) -> [u8; 2]
+    ensures { λ r. ⌜ r ≡ bytesOf 2 x ⌝ }
+{
+    let first = x % 256;
+    let second = x / 256 % 256;
+    [first as u8, second as u8]
+}
+
+pub fn long_bytes(x: u32) -> [u8; 4]
+    ensures { λ r. ⌜ r ≡ bytesOf 4 x ⌝ }
+{
+    let first = x % 256;
+    let second = x / 256 % 256;
+    let third = x / 256 / 256 % 256;
+    let fourth = x / 256 / 256 / 256 % 256;
+    [first as u8, second as u8, third as u8, fourth as u8]
 }
 
 // Writes the bytes over `to` from `at` on, all of them, or none where they do not fit.

@@ -1,0 +1,73 @@
+-- `report::decode` meets its contract: each field is read at its place.
+use Rattle.report.specs.Record.{fieldsOf}
+use borrow.Author.Needs.{needs}
+use Rattle.report.proofs.decode.Statement.{statement}
+use Rattle.report.proofs.decode.Tie as tie
+
+word-at-requires : tie.Need-word-at-requires
+word-at-requires c κs = search needs
+
+word-at-requires-2 : tie.Need-word-at-requires-2
+word-at-requires-2 c κs = search needs
+
+word-at-requires-3 : tie.Need-word-at-requires-3
+word-at-requires-3 c κs = search needs
+
+word-at-requires-4 : tie.Need-word-at-requires-4
+word-at-requires-4 c κs = search needs
+
+word-at-requires-5 : tie.Need-word-at-requires-5
+word-at-requires-5 c κs = search needs
+
+long-at-requires : tie.Need-long-at-requires
+long-at-requires c κs = search needs
+
+word-at-requires-6 : tie.Need-word-at-requires-6
+word-at-requires-6 c κs = search needs
+
+byte-at-requires : tie.Need-byte-at-requires
+byte-at-requires c κs = search needs
+
+byte-at-requires-2 : tie.Need-byte-at-requires-2
+byte-at-requires-2 c κs = search needs
+
+returns : tie.Need-returns
+unfolding fieldsOf
+returns c =
+    let c7 = c .before in
+    let c6 = c7 .before in
+    let c5 = c6 .before in
+    let c4 = c5 .before in
+    let c3 = c4 .before in
+    let c2 = c3 .before in
+    let c1 = c2 .before in
+    λ i.
+    record {
+      number = c5 .long-at .ensures i;
+      factor = c6 .word-at6 .ensures i;
+      first = c7 .byte-at .ensures i;
+      runs = c .byte-at2 .ensures i;
+      factors =
+          record {
+            one = c1 .before .word-at .ensures i;
+            two = c1 .word-at2 .ensures i;
+            three = c2 .word-at3 .ensures i;
+            four = c3 .word-at4 .ensures i;
+            five = c4 .word-at5 .ensures i;
+          };
+    }
+
+pub decode-spec : {M : Type 1} → statement M
+decode-spec =
+    tie.close
+    (tie.spec
+    word-at-requires
+    word-at-requires-2
+    word-at-requires-3
+    word-at-requires-4
+    word-at-requires-5
+    long-at-requires
+    word-at-requires-6
+    byte-at-requires
+    byte-at-requires-2
+    returns)
