@@ -2,6 +2,7 @@
 use mathlib.Core.Path.{_≡_, refl, sym, ap, _∙_}
 use mathlib.Core.Bool.{Bool, true, false, cond}
 use Prim.Native.Nat.{ℕ}
+use native.Mathlib.Omega.{arith}
 use lib.Dec.{eqb}
 use Rattle.refusals.specs.Table.{numberOf, recordOf}
 use Rattle.refusals.specs.Told.{Told, done, refused, Fault, fine, fault, demand, demandAt, orElse, judged}
@@ -99,3 +100,40 @@ orElse-next g p = ap (λ (f : Fault). orElse f g) p
 
 pub orElse-first : {f : Fault} {n at : ℕ} (g : Fault) → f ≡ fault n at → orElse f g ≡ fault n at
 orElse-first g p = ap (λ (f : Fault). orElse f g) p
+
+-- no fault at all is none in either part
+pub orElse-fine-first : (f g : Fault) → orElse f g ≡ fine → f ≡ fine
+orElse-fine-first fine g is = refl
+orElse-fine-first (fault n at) g is = is
+
+pub orElse-fine-next : (f g : Fault) → orElse f g ≡ fine → g ≡ fine
+orElse-fine-next fine g is = is
+orElse-fine-next (fault n at) g is = cc
+
+pub demand-was : (t : Bool) (n : ℕ) → demand t n ≡ fine → t ≡ true
+demand-was true n is = refl
+demand-was false n is = cc
+
+pub demandAt-was : (t : Bool) (n at : ℕ) → demandAt t n at ≡ fine → t ≡ true
+demandAt-was true n at is = refl
+demandAt-was false n at is = cc
+
+-- a result shows that no fault was found, and which result it is
+pub judged-was : {A : Type 0} (f : Fault) (x : A) {y : A} → judged f x ≡ done y → f ≡ fine
+judged-was fine x is = refl
+judged-was (fault n at) x is = cc
+
+pub judged-done : {A : Type 0} (f : Fault) (x : A) {y : A} → judged f x ≡ done y → x ≡ y
+judged-done fine x is = done-one is
+judged-done (fault n at) x is = cc
+
+-- a refusal shows the fault
+pub judged-refused : {A : Type 0} (f : Fault) (x : A) {n at : ℕ} → judged f x ≡ refused n at → f ≡ fault n at
+judged-refused fine x is = cc
+judged-refused (fault m b) x is = λ i. fault (refused-number is i) (refused-record is i)
+
+pub fault-not-fine : {n at : ℕ} → fault n at ≡ fine → ⊥
+fault-not-fine is = let z : _≡_ {A = ℕ} 0 1 = cc in omega arith
+
+pub refused-not-done : {A : Type 0} {n at : ℕ} {x : A} → _≡_ {A = Told A} (refused n at) (done x) → ⊥
+refused-not-done is = let z : _≡_ {A = ℕ} 0 1 = cc in omega arith

@@ -1,0 +1,84 @@
+-- `proving::accept` meets its contract: the five records lie within the lent ones.
+use mathlib.Core.List.{List}
+use mathlib.Core.Path.{_≡_, refl, ap, sym, _∙_}
+use Prim.Native.Nat.{ℕ, _+_, _*_, _-_, _/_, _≤_}
+use native.Mathlib.Omega.{arith}
+use borrow.Author.Needs.{needs}
+use denote.Ref.{now}
+use lib.ListN.{length, take, drop}
+use Rattle.refusals.specs.Told.{Told, done}
+use Rattle.proving.proofs.Facts.{FoundAt, found-at}
+use Rattle.proving.specs.Answers.{toldFound}
+use Rattle.proving.specs.Job.{foundOf, acceptedBy, acceptedOf}
+use Rattle.proving.specs.Judging.{runsIn}
+use Rattle.proving.proofs.accept.Statement.{statement}
+use Rattle.proving.proofs.accept.Tie as tie
+
+find-five-requires : tie.Need-find-five-requires
+find-five-requires c κs = search needs
+
+enum-known-found : tie.Need-enum-known-found
+enum-known-found c = search needs
+
+abbrev begin : tie.After-known-told → tie.Start
+begin c = c .before .before .before .before .before
+
+abbrev place : tie.After-known-told → ℕ
+place c = c .before .found .given .0 .0
+
+is : (c : tie.After-known-told) → foundOf (begin c .args .prover) (begin c .args .k) (begin c .args .limit) (now (begin c .args .records)) ≡ done (place c)
+is c = sym (c .before .before .before .find-five .ensures .0) ∙ ap toldFound (c .before .found .given .1)
+
+room : (c : tie.After-known-told) → 32 * place c + 160 ≤ length (now (begin c .args .records))
+unfolding runsIn
+room c = let f : FoundAt _ _ _ (now (begin c .args .records)) (place c) = found-at _ _ _ _ (is c) in omega (arith, f .inside, f .settled .whole)
+
+mul-from : tie.Need-mul-from
+mul-from c = omega (arith, room c)
+
+add-end : tie.Need-add-end
+add-end c = omega (arith, room c)
+
+sub-result : tie.Need-sub-result
+sub-result c = search needs
+
+part-result-start : tie.Need-part-result-start
+part-result-start c = search needs
+
+part-result-end : tie.Need-part-result-end
+part-result-end c = omega (arith, room c)
+
+enum-told : tie.Need-enum-told
+enum-told c = search needs
+
+slice-aggregate-result : tie.Need-slice-aggregate-result
+slice-aggregate-result c = search needs
+
+returns : tie.Need-returns
+unfolding acceptedOf
+returns c =
+    let d = c .before in
+    let size : 32 * place d + 160 - 32 * place d ≡ 160 = omega arith in
+    ap (λ (n : ℕ). take n (drop (32 * place d) (now (begin d .args .records)))) size ∙ sym (ap (λ (t : Told ℕ). acceptedBy t (now (begin d .args .records))) (is d))
+
+returns-2 : tie.Need-returns-2
+unfolding acceptedOf
+returns-2 c =
+    let f = c .before .before .before in
+    sym (ap (λ (t : Told ℕ). acceptedBy t (now (f .before .before .args .records))) (sym (f .find-five .ensures .0) ∙ ap toldFound (c .before .enum-told .given .1)))
+
+pub accept-spec : {M : Type 1} → statement M
+accept-spec =
+    tie.close
+    (tie.spec
+    find-five-requires
+    enum-known-found
+    mul-from
+    add-end
+    sub-result
+    part-result-start
+    part-result-end
+    enum-told
+    slice-aggregate-result
+    returns
+    returns-2)

@@ -1,0 +1,70 @@
+-- `proving::judge_records` meets its contract. The loop's invariant: what is found from the first record on is what is found from record i on.
+use mathlib.Core.Path.{_≡_, sym, _∙_, ap}
+use Prim.Native.Nat.{ℕ, _+_, _-_, _≤_}
+use native.Mathlib.Omega.{arith}
+use borrow.Author.Needs.{needs}
+use denote.Ref.{now}
+use Rattle.octets.specs.FirstToLast.{scan}
+use Rattle.octets.proofs.FirstToLast.{faults, start, next, scan-hit, done}
+use Rattle.proving.specs.Judging.{recordFault}
+use Rattle.proving.specs.Answers.{toldFault}
+use Rattle.proving.proofs.judge_records.Statement.{statement}
+use Rattle.proving.proofs.judge_records.Tie as tie
+
+abbrev Inv-loop : tie.InvT-loop
+Inv-loop records count i₀ i = (i ≤ count) × (scan (recordFault records) count 0 ≡ scan (recordFault records) (count - i) i)
+
+abbrev μ-loop : tie.MeasureT-loop
+μ-loop records count i₀ i = count - i
+
+loop-holds : tie.Need-loop-holds Inv-loop μ-loop
+loop-holds c = (omega arith, start faults (recordFault _) _)
+
+judge-record-requires : tie.Need-judge-record-requires Inv-loop μ-loop
+judge-record-requires c κs = omega arith
+
+enum-told : tie.Need-enum-told Inv-loop μ-loop
+enum-told c = search needs
+
+enum-told-2 : tie.Need-enum-told-2 Inv-loop μ-loop
+enum-told-2 c = search needs
+
+returns : tie.Need-returns Inv-loop μ-loop
+returns c =
+    let l = c .before .before .before .before .loop in
+    let a = c .before .before .before .before .before .before .args in
+    let is = ap toldFault (c .enum-told2 .given .1) in
+    is ∙ sym (scan-hit (recordFault (now (a .records))) (a .count) (l .i) (omega arith) (sym (c .before .before .judge-record .ensures) ∙ is) (l .inv .1))
+
+add-i : tie.Need-add-i Inv-loop μ-loop
+add-i c = omega arith
+
+loop-less : tie.Need-loop-less Inv-loop μ-loop
+loop-less c = omega arith
+
+loop-again : tie.Need-loop-again Inv-loop μ-loop
+loop-again c =
+    let l = c .before .before .before .before .loop in
+    let a = c .before .before .before .before .before .before .args in
+    (omega arith, next faults (recordFault (now (a .records))) (a .count) (l .i) (omega arith) (sym (c .before .before .judge-record .ensures) ∙ ap toldFault (c .enum-told .given .1)) (l .inv .1))
+
+returns-2 : tie.Need-returns-2 Inv-loop μ-loop
+returns-2 c =
+    let a = c .before .before .before .args in
+    sym (done faults (recordFault (now (a .records))) (a .count) (c .before .loop .i) (c .loop-test .left) (c .before .loop .inv .1))
+
+pub judge-records-spec : {M : Type 1} → statement M
+judge-records-spec =
+    tie.close
+    (tie.spec
+    Inv-loop
+    μ-loop
+    loop-holds
+    judge-record-requires
+    enum-told
+    enum-told-2
+    returns
+    add-i
+    loop-less
+    loop-again
+    returns-2)

@@ -1,0 +1,243 @@
+// Proving by pipe prover (01, 'Proving, by pipe prover'): the job, its report, and the accepted runs.
+ghost use mathlib.Core.Path.{_≡_};
+ghost use mathlib.Core.Bool.{true};
+ghost use Prim.Native.Nat.{ℕ, _+_, _*_, _^_, _<_, _≤_};
+ghost use lib.ListN.{length, getD};
+ghost use Rattle.octets.specs.FirstToLast.{scan};
+ghost use Rattle.ranges.specs.Table.{kFactorOk};
+ghost use Rattle.refusals.specs.Told.{fine, done, judged};
+ghost use Rattle.group.specs.Repeatability.{firstGroup};
+ghost use Rattle.report.specs.Judged.{told, leftBy};
+ghost use Rattle.run.specs.Record.{runAt, fieldsOk};
+ghost use Rattle.run.specs.Answers.{proverOk};
+ghost use Rattle.proving.specs.Judging.{runsIn, settingsFault, recordFault, runFault, inputFault};
+ghost use Rattle.proving.specs.Job.{factorAt, groupFault, placeFound, foundOf, fiveAt, jobOf, acceptedOf};
+ghost use Rattle.proving.specs.Answers.{toldFault, faultOf, toldFound};
+use factors::Prover;
+use group::Group;
+use refusals::Refusal;
+use report::Answer;
+use report::Factors;
+use run::Outcome;
+
+// What judging finds.
+enum Verdict {
+    Fine,
+    Refused(Refusal),
+}
+
+// The run factors of a job, of which the first so many count, and what judging found.
+struct Runs {
+    factors: [u64; 20],
+    verdict: Verdict,
+}
+
+// Where the first qualifying five begin, from 0.
+enum Found {
+    At(usize),
+    Refused(Refusal),
+}
+
+struct Five {
+    factors: [u64; 20],
+    found: Found,
+}
+
+// 5, then 2, of one record, counted from 0.
+fn judge_record(records: &[u8], i: usize) -> Verdict
+    requires { ⌜ (i < 20) × (32 * i ≤ length (now records)) ⌝ }
+    ensures { λ r. ⌜ toldFault r ≡ recordFault (now (records .entry)) i ⌝ }
+{
+    let at = 32 * i;
+    let number = (i + 1) as u16;
+    if run::is_run(run::decode(records, at)) {
+        if octets::are_zero(records, at + 20, at + 32) {
+            return Verdict::Fine;
+        }
+        return Verdict::Refused(Refusal::UnnamedByte(number));
+    }
+    Verdict::Refused(Refusal::RecordField(number))
+}
+
+// The records, first to last.
+fn judge_records(records: &[u8], count: usize) -> Verdict
+    requires { ⌜ (count ≤ 20) × (32 * count ≤ length (now records)) ⌝ }
+    ensures { λ r. ⌜ toldFault r ≡ scan (recordFault (now (records .entry))) count 0 ⌝ }
+{
+    let mut i: usize = 0;
+    while i < count {
+        let verdict = judge_record(records, i);
+        let Verdict::Fine = verdict else {
+            return verdict;
+        };
+        i += 1;
+    }
+    Verdict::Fine
+}
+
+// The runs' factors, first to last. A run that has no factor ends the job with that run's refusal.
+fn work_out_runs(prover: Prover, k: u32, records: &[u8], count: usize) -> Runs
+    requires { ⌜ (proverOk prover ≡ true) × (kFactorOk k ≡ true) × (count ≤ 20) × (32 * count ≤ length (now records)) × ((i : ℕ) → i < count → fieldsOk (runAt (now records) (32 * i)) ≡ true) ⌝ }
+    ensures { λ r. ⌜ (toldFault (r .verdict) ≡ scan (runFault prover k (now (records .entry))) count 0) × (length (r .factors) ≡ 20) × (toldFault (r .verdict) ≡ fine → (i : ℕ) → i < count → getD (r .factors) i 0 ≡ factorAt prover k (now (records .entry)) i) ⌝ }
+{
+    let mut values = [0u64; 20];
+    let mut i: usize = 0;
+    while i < count {
+        let run = run::decode(records, 32 * i);
+        let outcome = run::find_factor(prover, k, run, (i + 1) as u16);
+        let Outcome::Factor(factor) = outcome else {
+            return Runs {
+                factors: values,
+                verdict: refuse(outcome),
+            };
+        };
+        values[i] = factor;
+        i += 1;
+    }
+    Runs {
+        factors: values,
+        verdict: Verdict::Fine,
+    }
+}
+
+// The refusal of a run that has no factor.
+fn refuse(outcome: Outcome) -> Verdict
+    ensures { λ r. ⌜ toldFault r ≡ faultOf outcome ⌝ }
+{
+    match outcome {
+        Outcome::Factor(_) => Verdict::Fine,
+        Outcome::Refused(refusal) => Verdict::Refused(refusal),
+    }
+}
+
+// 1, 3, 4: the size of what is lent, the prover's settings, K and the limit.
+fn judge_settings(prover: Prover, k: u32, limit: u16, size: usize) -> Verdict
+    ensures { λ r. ⌜ toldFault r ≡ settingsFault prover k limit size ⌝ }
+{
+    if (size % 32 == 0) & ranges::is_within((size / 32) as u64, 5, 20) {
+        if run::is_prover(prover) {
+            if ranges::is_within(k as u64, 1, 1000000000)
+                & ranges::is_within(limit as u64, 1, 100)
+            {
+                return Verdict::Fine;
+            }
+            return Verdict::Refused(Refusal::KFactorOrLimit);
+        }
+        return Verdict::Refused(Refusal::ProverSetting);
+    }
+    Verdict::Refused(Refusal::Records)
+}
+
+// All that is judged before a group is looked for.
+fn judge_input(prover: Prover, k: u32, limit: u16, records: &[u8]) -> Runs
+    ensures { λ r. ⌜ (toldFault (r .verdict) ≡ inputFault prover k limit (now (records .entry))) × (length (r .factors) ≡ 20) × (toldFault (r .verdict) ≡ fine → (i : ℕ) → i < runsIn (now (records .entry)) → getD (r .factors) i 0 ≡ factorAt prover k (now (records .entry)) i) ⌝ }
+{
+    let verdict = judge_settings(prover, k, limit, records.len());
+    let Verdict::Fine = verdict else {
+        return Runs {
+            factors: [0u64; 20],
+            verdict,
+        };
+    };
+    let count = records.len() / 32;
+    let judged = judge_records(records, count);
+    let Verdict::Fine = judged else {
+        return Runs {
+            factors: [0u64; 20],
+            verdict: judged,
+        };
+    };
+    work_out_runs(prover, k, records, count)
+}
+
+// The first qualifying five, or 9.
+fn seek(values: &[u64], limit: u16) -> Found
+    ensures { λ r. ⌜ toldFound r ≡ judged (groupFault (firstGroup limit 5 (now (values .entry)))) (placeFound (firstGroup limit 5 (now (values .entry)))) ⌝ }
+{
+    let group = group::first_group(values, 5, limit as u64);
+    match group {
+        Group::At(at) => Found::At(at),
+        Group::Nothing => Found::Refused(Refusal::NoGroup),
+    }
+}
+
+fn find_five(prover: Prover, k: u32, limit: u16, records: &[u8]) -> Five
+    ensures { λ r. ⌜ (toldFound (r .found) ≡ foundOf prover k limit (now (records .entry))) × (length (r .factors) ≡ 20) × ((at : ℕ) → toldFound (r .found) ≡ done at → (i : ℕ) → i < runsIn (now (records .entry)) → getD (r .factors) i 0 ≡ factorAt prover k (now (records .entry)) i) ⌝ }
+{
+    let runs = judge_input(prover, k, limit, records);
+    let factors = runs.factors;
+    let verdict = runs.verdict;
+    match verdict {
+        Verdict::Fine => {
+            let count = records.len() / 32;
+            Five {
+                factors,
+                found: seek(&factors[..count], limit),
+            }
+        }
+        Verdict::Refused(refusal) => Five {
+            factors,
+            found: Found::Refused(refusal),
+        },
+    }
+}
+
+// Five consecutive factors, in the report's 16 bits.
+fn take_five(values: [u64; 20], at: usize) -> Factors
+    requires { ⌜ (at + 5 ≤ 20) × ((i : ℕ) → i < 5 → getD values (at + i) 0 < 2 ^ 16) ⌝ }
+    ensures { λ r. ⌜ r ≡ fiveAt values at ⌝ }
+{
+    Factors {
+        one: values[at] as u16,
+        two: values[at + 1] as u16,
+        three: values[at + 2] as u16,
+        four: values[at + 3] as u16,
+        five: values[at + 4] as u16,
+    }
+}
+
+// The job: its report is written into the lent 32 bytes, or every byte is left as found.
+pub fn prove(
+    request: u32,
+    prover: Prover,
+    k: u32,
+    limit: u16,
+    records: &[u8],
+    buffer: &mut [u8],
+) -> Answer
+    ensures answer { λ r. ⌜ told r ≡ jobOf request prover k limit (now (records .entry)) (length (now (buffer .entry))) ⌝ }
+    ensures left { λ _. ⌜ now (buffer .exit) ≡ leftBy (jobOf request prover k limit (now (records .entry)) (length (now (buffer .entry)))) (now (buffer .entry)) ⌝ }
+{
+    if buffer.len() != 32 {
+        return Answer::Refused(Refusal::ReportBuffer);
+    }
+    if request == 0 {
+        return Answer::Refused(Refusal::NumberZero);
+    }
+    let five = find_five(prover, k, limit, records);
+    let found = five.found;
+    match found {
+        Found::At(at) => {
+            let values = five.factors;
+            let runs = (records.len() / 32) as u8;
+            report::write(request, runs, (at + 1) as u8, take_five(values, at), buffer)
+        }
+        Found::Refused(refusal) => Answer::Refused(refusal),
+    }
+}
+
+// The five accepted run records, as a part of the lent records; the empty part on refusal.
+pub fn accept<'a>(prover: Prover, k: u32, limit: u16, records: &'a [u8]) -> &'a [u8]
+    ensures { λ r. ⌜ now r ≡ acceptedOf prover k limit (now (records .entry)) ⌝ }
+{
+    let five = find_five(prover, k, limit, records);
+    let found = five.found;
+    match found {
+        Found::At(at) => {
+            let from = 32 * at;
+            let end = from + 160;
+            &records[from..end]
+        }
+        Found::Refused(_) => &records[..0],
+    }
+}
