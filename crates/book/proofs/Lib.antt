@@ -1,0 +1,5 @@
+pub mod Bools
+pub mod Lists
+pub mod Lines
+pub mod Shape
+pub mod Books
