@@ -6,10 +6,12 @@ use Prim.Native.Nat.{ℕ, zero, suc, _+_, _-_, _≤_, _<_}
 use native.Mathlib.Omega.{arith}
 use borrow.Author.Tests.{leb-true, le-leb, ltb-true, lt-ltb}
 use lib.Dec.{leb, ltb}
-use lib.ListN.{length, drop}
+use lib.ListN.{length, drop, getD}
+use lib.Seq.{getD-take}
 use Rattle.book.specs.Line.{waiting, areProper, areZero}
 use Rattle.book.specs.Figures.{shippers, reserve, ceiling, commons, lineAt, waitingOf, has, beyond, commonsUsed}
 use Rattle.book.specs.Sound.{isLineSound, isSoundAt, areLinesSound, isSound}
+use Rattle.book.specs.Calls.{hasAny, oldestOf}
 use Rattle.book.specs.declared.Book.{Book}
 use Rattle.book.specs.declared.Line.{Line}
 use Rattle.book.proofs.Bools.{both-first, both-second, both-true}
@@ -80,3 +82,16 @@ module _ (book : Book) (sound : isSound book ≡ true) where
 pub sound-book : (book : Book) → areLinesSound book ≡ true → commonsUsed book ≤ commons book → book .last < 4 → isSound book ≡ true
 unfolding isSound shippers
 sound-book book lines few last = both-true lines (both-true (le-leb _ _ few) (lt-ltb _ _ last))
+
+-- who has any, by the counts of the lines
+unfoldable pub anyIn : List Line → ℕ → Bool
+anyIn lines s = ltb 0 (getD lines s (record { numbers = []; count = 0 }) .count)
+
+pub any-counted : (book : Book) → Shaped book → areLinesSound book ≡ true → (s : ℕ) → s < 4 → anyIn (book .lines) s ≡ hasAny book s
+unfolding anyIn hasAny lineAt
+any-counted book shape sound s known = ap (ltb 0) (sym (has-count book shape sound s known))
+
+-- the oldest stands first in the line
+pub oldest-first : (book : Book) (s : ℕ) → 0 < lineAt book s .count → oldestOf book s ≡ getD (lineAt book s .numbers) 0 0
+unfolding oldestOf waitingOf waiting
+oldest-first book s some = getD-take (lineAt book s .count) (lineAt book s .numbers) 0 0 some

@@ -3,3 +3,5 @@ pub mod Lists
 pub mod Lines
 pub mod Shape
 pub mod Books
+pub mod Calls
+pub mod Turns

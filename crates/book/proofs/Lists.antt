@@ -3,6 +3,7 @@ use mathlib.Core.Path.{_≡_, refl, sym, ap, _∙_}
 use mathlib.Core.Bool.{Bool, true, false, _&&_, _||_, not, cond}
 use mathlib.Core.List.{List, [], _∷_, _++_, append-assoc}
 use Prim.Native.Nat.{ℕ, zero, suc, _+_, _-_, _≤_, _<_}
+use native.Mathlib.Nat.{suc-add}
 use native.Mathlib.Numerals.{add-one}
 use native.Mathlib.Omega.{arith}
 use borrow.Author.Tests.{eqb-true, eq-eqb, ne-eqb, lt-ltb, le-ltb}
@@ -113,3 +114,18 @@ pub missed-behind : (x : ℕ) (xs : List ℕ) (from r : ℕ) → r ≡ from + pl
 missed-behind x xs from r is past =
     let many : length (drop from xs) ≡ length xs - from = length-drop from xs in
     in-place x (drop from xs) ∙ le-ltb (placeOf x (drop from xs)) (length (drop from xs)) (omega arith)
+
+-- what is left when a number's place is given up is what is left without the number
+pub given-up-place : (x : ℕ) (xs : List ℕ) → givenUp (placeOf x xs) xs ≡ without x xs
+unfolding givenUp placeOf without
+given-up-place x [] = refl
+given-up-place x (y ∷ ys) = by (eqb x y) (given-up-place x ys)
+  where
+    by : (t : Bool) → givenUp (placeOf x ys) ys ≡ without x ys → givenUp (cond t 0 (suc (placeOf x ys))) (y ∷ ys) ≡ cond t ys (y ∷ without x ys)
+    by true rest = refl
+    by false rest = ap (λ (n : ℕ). y ∷ take (placeOf x ys) ys ++ drop n (y ∷ ys)) (suc-add (placeOf x ys) 1) ∙ ap (λ (l : List ℕ). y ∷ l) rest
+
+-- the first place given up
+pub given-up-first : (xs : List ℕ) → givenUp 0 xs ≡ drop 1 xs
+unfolding givenUp
+given-up-first xs = refl

@@ -6,8 +6,8 @@ use Rattle.book.specs.declared.Entry.{Entry}
 use Rattle.book.specs.declared.Entry.the-variants.{Entered, Refused}
 use Rattle.book.specs.declared.Withdrawal.{Withdrawal}
 use Rattle.book.specs.declared.Withdrawal.the-variants as withdrawal
-use Rattle.book.specs.declared.Take.{Take}
-use Rattle.book.specs.declared.Take.the-variants as take
+use Rattle.book.specs.declared.Handout.{Handout}
+use Rattle.book.specs.declared.Handout.the-variants as handout
 
 -- A request that a take hands out: its shipper and its number.
 pub record Handed : Type 0 where
@@ -25,6 +25,6 @@ toldWithdrawal withdrawal.Withdrawn = done tt
 toldWithdrawal (withdrawal.Refused refusal) = refused (numberOf refusal) (recordOf refusal)
 
 -- a take's answer
-abbrev pub toldTake : Take → Told Handed
-toldTake (take.Handed shipper number) = done (record { shipper = shipper; number = number })
-toldTake (take.Refused refusal) = refused (numberOf refusal) (recordOf refusal)
+abbrev pub toldTake : Handout → Told Handed
+toldTake (handout.Handed shipper number) = done (record { shipper = shipper; number = number })
+toldTake (handout.Refused refusal) = refused (numberOf refusal) (recordOf refusal)

@@ -2,10 +2,9 @@
 use mathlib.Core.Path.{_≡_, _∙_}
 use Prim.Native.Nat.{ℕ, _+_, _-_, _≤_, _<_}
 use native.Mathlib.Omega.{arith}
-use lib.ListN.{length-map}
 use Rattle.book.specs.Figures.{lineAt, commonsUsed, beyond}
 use Rattle.book.proofs.Books.{at-count, beyond-count}
-use Rattle.book.proofs.Shape.{Shaped, each-sixteen}
+use Rattle.book.proofs.Shape.{Shaped, shaped}
 use borrow.Author.Needs.{needs}
 use Rattle.book.proofs.sound.count_commons_used.Statement.{statement}
 use Rattle.book.proofs.sound.count_commons_used.Tie as tie
@@ -34,14 +33,11 @@ element-copy-out-count-beyond-4 c = search needs
 count-beyond-requires-4 : tie.Need-count-beyond-requires-4
 count-beyond-requires-4 c κs = search needs
 
-shaped : (c : tie.Start) → Shaped (c .args .t1)
-unfolding lineAt
-shaped c =
-    let four = simp length-map at (c .good .0 .1 .1 .0 .1 .0 .1) in
-    (four, λ s h. each-sixteen (c .args .t1 .lines) _ (c .good .0 .1 .1 .0 .1 .1) s (omega arith))
+shape : (c : tie.Start) → Shaped (c .args .t1)
+shape c = shaped (c .args .t1) _ (c .good .0)
 
 small : (c : tie.Start) (s r : ℕ) → s < 4 → r ≡ lineAt (c .args .t1) s .count - 2 → r ≤ 6
-small c s r h is = let few = at-count (c .args .t1) (shaped c) (c .pre) s h in omega arith
+small c s r h is = let few = at-count (c .args .t1) (shape c) (c .pre) s h in omega arith
 
 add-result : tie.Need-add-result
 unfolding lineAt
@@ -66,10 +62,10 @@ unfolding lineAt commonsUsed
 returns c =
     let a = c .before .before .before .before in
     let b = a .args .t1 in
-    let first = beyond-count b (shaped a) (a .pre) 0 (omega arith) (c .before .before .before .count-beyond .ensures) in
-    let second = beyond-count b (shaped a) (a .pre) 1 (omega arith) (c .before .before .count-beyond2 .ensures) in
-    let third = beyond-count b (shaped a) (a .pre) 2 (omega arith) (c .before .count-beyond3 .ensures) in
-    let fourth = beyond-count b (shaped a) (a .pre) 3 (omega arith) (c .count-beyond4 .ensures) in
+    let first = beyond-count b (shape a) (a .pre) 0 (omega arith) (c .before .before .before .count-beyond .ensures) in
+    let second = beyond-count b (shape a) (a .pre) 1 (omega arith) (c .before .before .count-beyond2 .ensures) in
+    let third = beyond-count b (shape a) (a .pre) 2 (omega arith) (c .before .count-beyond3 .ensures) in
+    let fourth = beyond-count b (shape a) (a .pre) 3 (omega arith) (c .count-beyond4 .ensures) in
     λ i. first i + (second i + (third i + fourth i))
 
 pub count-commons-used-spec : {M : Type 1} → statement M
