@@ -1,6 +1,6 @@
 -- Tests joined: what a conjunction and a disjunction tell, and a value by cases of a test.
 use mathlib.Core.Path.{_≡_, refl, sym, _∙_}
-use mathlib.Core.Bool.{Bool, true, false, _&&_, _||_, not, and-false}
+use mathlib.Core.Bool.{Bool, true, false, _&&_, _||_, not, and-false, true≢false}
 use mathlib.Core.Logic.{_⊎_, inl, inr}
 
 pub both-first : (a b : Bool) → (a && b) ≡ true → a ≡ true
@@ -24,3 +24,11 @@ not-of-true p = rw p
 
 pub not-of-false : {t : Bool} → t ≡ false → not t ≡ true
 not-of-false p = rw p
+
+pub neither-first : (a b : Bool) → (a || b) ≡ false → a ≡ false
+neither-first true b f = f
+neither-first false b f = refl
+
+pub neither-second : (a b : Bool) → (a || b) ≡ false → b ≡ false
+neither-second true b f = absurd (true≢false f)
+neither-second false b f = f

@@ -5,3 +5,7 @@ pub mod Shape
 pub mod Books
 pub mod Calls
 pub mod Turns
+pub mod Waiting
+pub mod Puts
+pub mod Kept
+pub mod Figures

@@ -4,3 +4,4 @@ pub mod Figures
 pub mod Sound
 pub mod Answers
 pub mod Calls
+pub mod Runs
