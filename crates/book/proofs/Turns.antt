@@ -1,7 +1,11 @@
 -- Laws of the turn: going round the four shippers.
 use mathlib.Core.Path.{_≡_, refl, sym, ap, _∙_}
+use mathlib.Core.Logic.{_⊎_, inl, inr, ⊎-elim}
 use mathlib.Core.Bool.{Bool, true, false, _||_, cond, or-assoc, or-comm}
-use Prim.Native.Nat.{ℕ, zero, suc, _+_, _-_, _<_, _%_}
+use Prim.Native.Nat.{ℕ, zero, suc, _+_, _-_, _≤_, _<_, _%_}
+use native.Mathlib.Decide.{decLe, decLt, ℕ-discrete}
+use native.Mathlib.Nat.{lt-of-not-le}
+use native.Mathlib.Numerals.{lt-of-le-of-ne}
 use native.Mathlib.Omega.{arith}
 use Rattle.book.specs.Figures.{shippers}
 use Rattle.book.specs.Calls.{following, firstFrom, hasAny, nextShipper, anyWaits}
@@ -76,3 +80,87 @@ module _ (any : ℕ → Bool) (tries s : ℕ) (left : 0 < tries) where
     where
       one : tries ≡ suc (tries - 1)
       one = omega arith
+
+not-below : {n m : ℕ} → (n < m → ⊥) → m ≤ n
+not-below {n} {m} h = let l : m < suc n = lt-of-not-le h in omega arith
+
+-- how many turns a shipper is away from another, going round
+unfoldable pub turnsTo : ℕ → ℕ → ℕ
+turnsTo from s = (s + 4 - from) % 4
+
+pub turns-few : (from s : ℕ) → turnsTo from s ≤ 3
+unfolding turnsTo
+turns-few from s = omega arith
+
+turns-ahead : (from s : ℕ) → from ≤ s → s < 4 → turnsTo from s ≡ s - from
+unfolding turnsTo
+turns-ahead from s ahead known = omega arith
+
+turns-round : (from s : ℕ) → s < from → from < 4 → turnsTo from s ≡ s + 4 - from
+unfolding turnsTo
+turns-round from s round known = omega arith
+
+following-next : (s : ℕ) → s < 3 → following s ≡ s + 1
+unfolding following shippers
+following-next s h = omega arith
+
+following-last : (s : ℕ) → s ≡ 3 → following s ≡ 0
+unfolding following shippers
+following-last s h = omega arith
+
+turns-none : (from s : ℕ) → from < 4 → s < 4 → turnsTo from s ≤ 0 → from ≡ s
+turns-none from s h k none = by (decLe from s)
+  where
+    by : Dec (from ≤ s) → from ≡ s
+    by (yes ahead) = let t = turns-ahead from s ahead k in omega arith
+    by (no not) = let round : s < from = lt-of-not-le not in let t = turns-round from s round h in absurd (omega arith)
+
+turns-nearer : (from s : ℕ) → from < 4 → s < 4 → (from ≡ s → ⊥) → suc (turnsTo (following from) s) ≡ turnsTo from s
+turns-nearer from s h k other = by (decLt from s) (decLt from 3)
+  where
+    by : Dec (from < s) → Dec (from < 3) → suc (turnsTo (following from) s) ≡ turnsTo from s
+    by (yes ahead) (yes low) =
+        let f = following-next from low in
+        let t = turns-ahead from s (omega arith) k in
+        let n = turns-ahead (following from) s (omega arith) k in
+        omega arith
+    by (yes ahead) (no top) = absurd (top (omega arith))
+    by (no not) (yes low) =
+        let round : s < from = lt-of-le-of-ne (not-below not) (λ e. other (sym e)) in
+        let f = following-next from low in
+        let t = turns-round from s round h in
+        let n = turns-round (following from) s (omega arith) (omega arith) in
+        omega arith
+    by (no not) (no top) =
+        let round : s < from = lt-of-le-of-ne (not-below not) (λ e. other (sym e)) in
+        let high : 3 ≤ from = not-below top in
+        let f = following-last from (omega arith) in
+        let t = turns-round from s round h in
+        let n = turns-ahead (following from) s (omega arith) k in
+        omega arith
+
+-- who was just served waits longest
+pub turns-served : (s : ℕ) → s < 4 → turnsTo (following s) s ≡ 3
+turns-served s h = by (decLt s 3)
+  where
+    by : Dec (s < 3) → turnsTo (following s) s ≡ 3
+    by (yes low) = let f = following-next s low in let t = turns-round (following s) s (omega arith) (omega arith) in omega arith
+    by (no top) =
+        let high : 3 ≤ s = not-below top in
+        let f = following-last s (omega arith) in
+        let t = turns-ahead (following s) s (omega arith) h in
+        omega arith
+
+-- a shipper with any is the one found, or is nearer after the one found was served
+pub nearer : (any : ℕ → Bool) (tries from s : ℕ) → from < 4 → s < 4 → turnsTo from s ≤ tries → any s ≡ true → (firstFrom any tries from ≡ s) ⊎ (turnsTo (following (firstFrom any tries from)) s < turnsTo from s)
+unfolding firstFrom
+nearer any zero from s h k close some = inl (turns-none from s h k close)
+nearer any (suc tries) from s h k close some = at (ℕ-discrete from s) (λ near. nearer any tries (following from) s (following-known from) k near some)
+  where
+    by : (t : Bool) → suc (turnsTo (following from) s) ≡ turnsTo from s → {rest : ℕ} → (rest ≡ s) ⊎ (turnsTo (following rest) s < turnsTo (following from) s) → (cond t from rest ≡ s) ⊎ (turnsTo (following (cond t from rest)) s < turnsTo from s)
+    by true near rest = inr (omega arith)
+    by false near rest = ⊎-elim (λ e. inl e) (λ l. inr (omega arith)) rest
+    at : Dec (from ≡ s) → (turnsTo (following from) s ≤ tries → (firstFrom any tries (following from) ≡ s) ⊎ (turnsTo (following (firstFrom any tries (following from))) s < turnsTo (following from) s))
+        → (cond (any from) from (firstFrom any tries (following from)) ≡ s) ⊎ (turnsTo (following (cond (any from) from (firstFrom any tries (following from)))) s < turnsTo from s)
+    at (yes same) rest = inl (ap (λ (t : Bool). cond t from (firstFrom any tries (following from))) (ap any same ∙ some) ∙ same)
+    at (no other) rest = let near = turns-nearer from s h k other in by (any from) near (rest (omega arith))
