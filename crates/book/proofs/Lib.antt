@@ -8,4 +8,5 @@ pub mod Turns
 pub mod Waiting
 pub mod Puts
 pub mod Kept
+pub mod Fates
 pub mod Figures

@@ -160,6 +160,7 @@ nearer any (suc tries) from s h k close some = at (ℕ-discrete from s) (λ near
     by : (t : Bool) → suc (turnsTo (following from) s) ≡ turnsTo from s → {rest : ℕ} → (rest ≡ s) ⊎ (turnsTo (following rest) s < turnsTo (following from) s) → (cond t from rest ≡ s) ⊎ (turnsTo (following (cond t from rest)) s < turnsTo from s)
     by true near rest = inr (omega arith)
     by false near rest = ⊎-elim (λ e. inl e) (λ l. inr (omega arith)) rest
+
     at : Dec (from ≡ s) → (turnsTo (following from) s ≤ tries → (firstFrom any tries (following from) ≡ s) ⊎ (turnsTo (following (firstFrom any tries (following from))) s < turnsTo (following from) s))
         → (cond (any from) from (firstFrom any tries (following from)) ≡ s) ⊎ (turnsTo (following (cond (any from) from (firstFrom any tries (following from)))) s < turnsTo from s)
     at (yes same) rest = inl (ap (λ (t : Bool). cond t from (firstFrom any tries (following from))) (ap any same ∙ some) ∙ same)
