@@ -9,4 +9,5 @@ pub mod Waiting
 pub mod Puts
 pub mod Kept
 pub mod Fates
+pub mod Counts
 pub mod Figures
