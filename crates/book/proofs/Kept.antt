@@ -19,7 +19,7 @@ use Rattle.book.specs.declared.Book.{Book}
 use Rattle.book.proofs.Books.{at-count, has-count, line-proper, sound-at, sound-book, sound-commons, sound-last, sound-lines}
 use Rattle.book.proofs.Bools.{decided}
 use Rattle.book.proofs.Calls.{Accepted, accepted, Granted, granted, HandedOut, handed-out, changed, unchanged}
-use Rattle.book.proofs.Puts.{shaped-put, lines-put, commons-put}
+use Rattle.book.proofs.Puts.{shaped-put, lines-put, commons-put, waiting-put}
 use Rattle.book.proofs.Shape.{Shaped}
 use Rattle.book.proofs.Turns.{next-known, next-any}
 use Rattle.book.proofs.Waiting.{proper-more, proper-without, proper-drop, length-without}
@@ -170,3 +170,19 @@ empty-places (suc (suc (suc (suc s)))) h = absurd (omega arith)
 pub kept-empty : Kept emptyBook
 unfolding emptyBook shippers lineOf places isSound areLinesSound isSoundAt isLineSound areProper areZero commonsUsed beyond has waitingOf lineAt waiting reserve ceiling commons
 kept-empty = record { sound = refl; shape = (refl, empty-places) }
+
+-- nothing waits in the empty book
+pub empty-waiting : (s : ℕ) → waitingOf emptyBook s ≡ []
+unfolding emptyBook shippers lineOf places waitingOf lineAt waiting
+empty-waiting zero = refl
+empty-waiting (suc zero) = refl
+empty-waiting (suc (suc zero)) = refl
+empty-waiting (suc (suc (suc zero))) = refl
+empty-waiting (suc (suc (suc (suc s)))) = refl
+
+-- a request that went in waits behind those of its own shipper
+pub waiting-entered : (book : Book) (s x : ℕ) → Kept book → requestOf book s x ≡ done tt → waitingOf (afterRequest book s x) s ≡ waitingOf book s ++ (x ∷ [])
+unfolding afterRequest
+waiting-entered book s x kept answer =
+    let xs = waitingOf book s ++ (x ∷ []) in
+    ap (λ (b : Book). waitingOf b s) (changed (put book s xs (book .last)) book answer) ∙ waiting-put book s xs (book .last) (kept .shape) (accepted book s x answer .known)

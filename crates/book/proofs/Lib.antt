@@ -10,4 +10,5 @@ pub mod Puts
 pub mod Kept
 pub mod Fates
 pub mod Counts
+pub mod Demand3
 pub mod Figures

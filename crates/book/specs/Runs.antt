@@ -4,6 +4,7 @@ use mathlib.Core.List.{List, [], _∷_}
 use Prim.Native.Nat.{ℕ, suc, _+_, _≤_, _<_}
 use lib.Dec.{eqb}
 use Rattle.refusals.specs.Told.{Told, done, refused}
+use Rattle.book.specs.Figures.{emptyBook}
 use Rattle.book.specs.Answers.{Handed}
 use Rattle.book.specs.Calls.{requestOf, afterRequest, withdrawalOf, afterWithdrawal, takeOf, afterTake}
 use Rattle.book.specs.declared.Book.{Book}
@@ -96,3 +97,7 @@ abbrev pub NoLaterThan : ℕ → List Call → Fate → Type 0
 NoLaterThan m calls (taken n) = n ≤ m
 NoLaterThan m calls withdrawn = Unit {0}
 NoLaterThan m calls waits = takes calls < m
+
+-- 'Start from a sound, empty book and make any requests, withdrawals and takes in any order.'
+unfoldable pub bookAfter : List Call → Book
+bookAfter calls = run calls emptyBook
