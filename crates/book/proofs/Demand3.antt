@@ -18,13 +18,13 @@ use Rattle.book.specs.Figures.{shippers, reserve, ceiling, commons, wait
 use Rattle.book.specs.Sound.{isSound}
 use Rattle.book.specs.Answers.{Handed}
 use Rattle.book.specs.Calls.{hasRoom, requestFault, requestOf, afterRequest, following, hasAny, firstFrom, nextShipper, anyWaits, takeFault, oldestOf, takeOf}
-use Rattle.book.specs.Runs.{Call, request, after, run, bookAfter, takes, goesIn, isWithdrawn, isTaken, howOften, times, fateOf, NoLaterThan}
+use Rattle.book.specs.Runs.{Call, request, after, run, bookAfter, takes, goesIn, isWithdrawn, isTaken, howOften, times, waits, fateOf, NoLaterThan}
 use Rattle.book.specs.declared.Book.{Book}
 use Rattle.book.proofs.Books.{sound-commons}
 use Rattle.book.proofs.Bools.{decided}
 use Rattle.book.proofs.Calls.{accepted, request-in, room-reserve, room-commons}
 use Rattle.book.proofs.Counts.{balance}
-use Rattle.book.proofs.Fates.{left, bound}
+use Rattle.book.proofs.Fates.{left, bound, still-waiting}
 use Rattle.book.proofs.Kept.{Kept, kept-empty, kept-after, kept-run, at-ceiling, at-proper, empty-waiting, waiting-entered}
 use Rattle.book.proofs.Puts.{waiting-put}
 use Rattle.book.proofs.Shape.{Shaped}
@@ -76,21 +76,33 @@ refused-only-when-commons-full calls s x known many below valid new n at refusal
 pub never-above-the-ceiling : (calls : List Call) (shipper : ℕ) → shipper < 4 → has (bookAfter calls) shipper ≤ ceiling (bookAfter calls) shipper
 never-above-the-ceiling calls s known = at-ceiling (bookAfter calls) (kept calls) s known
 
+-- where a request that went in stands
+entered : (calls : List Call) (s x : ℕ) → requestOf (bookAfter calls) s x ≡ done tt → isIn x (waitingOf (afterRequest (bookAfter calls) s x) s) ≡ true
+unfolding isIn
+entered calls s x answer =
+    let w = waitingOf (bookAfter calls) s in
+    ap (isIn x) (waiting-entered (bookAfter calls) s x (kept calls) answer) ∙ in-append x w (x ∷ []) ∙ ap (λ (t : Bool). isIn x w || (t || false)) (eq-eqb x x refl) ∙ or-true (isIn x w)
+
 -- (d) 'A request that goes in behind k of its own shipper's is taken no later than the 4(k+1)th take after that, unless its
 -- shipper withdraws it first.' Whatever calls come later: it is taken at such a take, or its withdrawal is granted first, or
 -- fewer than 4(k+1) takes were made.
 pub taken-in-time : (calls : List Call) (shipper number : ℕ) → requestOf (bookAfter calls) shipper number ≡ done tt → (later : List Call)
     → NoLaterThan (4 * (has (bookAfter calls) shipper + 1)) later (fateOf shipper number later (afterRequest (bookAfter calls) shipper number))
-unfolding left has isIn after
+unfolding left has after
 taken-in-time calls s x answer later =
     let b = bookAfter calls in
     let b′ = afterRequest b s x in
     let told = accepted b s x answer in
-    let line = waiting-entered b s x (kept calls) answer in
-    let here = ap (isIn x) line ∙ in-append x (waitingOf b s) (x ∷ []) ∙ ap (λ (t : Bool). isIn x (waitingOf b s) || (t || false)) (eq-eqb x x refl) ∙ or-true (isIn x (waitingOf b s)) in
-    let place = ap (placeOf x) line ∙ place-new x (waitingOf b s) (told .new) in
+    let place = ap (placeOf x) (waiting-entered b s x (kept calls) answer) ∙ place-new x (waitingOf b s) (told .new) in
     let turns = turns-few (following (b′ .last)) s in
-    bound s x (told .known) later b′ (kept-after (request s x) b (kept calls)) here (4 * (length (waitingOf b s) + 1)) (omega arith)
+    bound s x (told .known) later b′ (kept-after (request s x) b (kept calls)) (entered calls s x answer) (4 * (length (waitingOf b s) + 1)) (omega arith)
+
+-- (e) '.. and what is neither is waiting still.'
+pub neither-waits-still : (calls : List Call) (shipper number : ℕ) → requestOf (bookAfter calls) shipper number ≡ done tt → (later : List Call)
+    → fateOf shipper number later (afterRequest (bookAfter calls) shipper number) ≡ waits → isIn number (waitingOf (run later (afterRequest (bookAfter calls) shipper number)) shipper) ≡ true
+unfolding after
+neither-waits-still calls s x answer later fate =
+    still-waiting s x (accepted (bookAfter calls) s x answer .known) later (afterRequest (bookAfter calls) s x) (kept-after (request s x) (bookAfter calls) (kept calls)) (entered calls s x answer) fate
 
 -- (e) 'Each accepted request is taken or withdrawn at most once, and what is neither is waiting still.' Whatever calls come
 -- later, as long as no other request of the same shipper and number goes in: it was taken once, or withdrawn once, or waits.

@@ -17,7 +17,7 @@ use Rattle.book.specs.Figures.{waitingOf, has, put}
 use Rattle.book.specs.Sound.{isSound}
 use Rattle.book.specs.Answers.{Handed}
 use Rattle.book.specs.Calls.{requestOf, afterRequest, withdrawalOf, afterWithdrawal, takeOf, afterTake, following, hasAny, firstFrom, nextShipper, anyWaits, oldestOf}
-use Rattle.book.specs.Runs.{Call, request, withdrawal, take, after, takes, isDone, isHanded, isWithdrawn, isTaken, Fate, taken, withdrawn, waits, earlier, fateOf, NoLaterThan}
+use Rattle.book.specs.Runs.{Call, request, withdrawal, take, after, run, takes, isDone, isHanded, isWithdrawn, isTaken, Fate, taken, withdrawn, waits, earlier, fateOf, NoLaterThan}
 use Rattle.book.specs.declared.Book.{Book}
 use Rattle.book.proofs.Books.{sound-last}
 use Rattle.book.proofs.Bools.{decided}
@@ -223,3 +223,36 @@ bound s x known (take ∷ calls) book kept here (suc m) h =
         → NoLaterThan (suc m) (take ∷ calls) (cond gone (taken 1) (earlier take (fateOf s x calls (afterTake book))))
     by true is or rest = omega arith
     by false is or rest = one-take-more m calls (fateOf s x calls (afterTake book)) (⊎-elim (λ e. absurd (true≢false (sym e ∙ is))) rest or)
+
+-- a request that is neither taken nor withdrawn waits still
+never-waits : {n : ℕ} → taken n ≡ waits → ⊥
+never-waits p = let z : _≡_ {A = ℕ} 0 1 = cc in omega arith
+
+withdrawn-waits : withdrawn ≡ waits → ⊥
+withdrawn-waits p = let z : _≡_ {A = ℕ} 0 1 = cc in omega arith
+
+earlier-waits : (fate : Fate) → earlier take fate ≡ waits → fate ≡ waits
+earlier-waits (taken n) p = absurd (never-waits p)
+earlier-waits withdrawn p = absurd (withdrawn-waits p)
+earlier-waits waits p = refl
+
+pub still-waiting : (s x : ℕ) → s < 4 → (calls : List Call) (book : Book) → Kept book → isIn x (waitingOf book s) ≡ true → fateOf s x calls book ≡ waits → isIn x (waitingOf (run calls book) s) ≡ true
+unfolding fateOf run after isWithdrawn isTaken
+still-waiting s x known [] book kept here is = here
+still-waiting s x known (request t y ∷ calls) book kept here is =
+    still-waiting s x known calls (afterRequest book t y) (kept-after (request t y) book kept) (still-request s x book kept here t y .waiting) is
+still-waiting s x known (withdrawal t y ∷ calls) book kept here is =
+    by (isWithdrawn s x (withdrawal t y) book) refl is
+    (λ not. still-waiting s x known calls (afterWithdrawal book t y) (kept-after (withdrawal t y) book kept) (still-withdrawal s x book kept here t y not .waiting))
+  where
+    by : (gone : Bool) → isWithdrawn s x (withdrawal t y) book ≡ gone → cond gone withdrawn (fateOf s x calls (afterWithdrawal book t y)) ≡ waits
+        → (isWithdrawn s x (withdrawal t y) book ≡ false → fateOf s x calls (afterWithdrawal book t y) ≡ waits → isIn x (waitingOf (run calls (afterWithdrawal book t y)) s) ≡ true) → isIn x (waitingOf (run calls (afterWithdrawal book t y)) s) ≡ true
+    by true told p rest = absurd (withdrawn-waits p)
+    by false told p rest = rest told p
+still-waiting s x known (take ∷ calls) book kept here is =
+    by (isHanded s x (takeOf book)) refl is (taken-or-nearer s x known book kept here) (λ near. still-waiting s x known calls (afterTake book) (kept-after take book kept) (near .waiting))
+  where
+    by : (gone : Bool) → isHanded s x (takeOf book) ≡ gone → cond gone (taken 1) (earlier take (fateOf s x calls (afterTake book))) ≡ waits → (isTaken s x take book ≡ true) ⊎ Nearer s x known book kept here
+        → (Nearer s x known book kept here → fateOf s x calls (afterTake book) ≡ waits → isIn x (waitingOf (run calls (afterTake book)) s) ≡ true) → isIn x (waitingOf (run calls (afterTake book)) s) ≡ true
+    by true told p or rest = absurd (never-waits p)
+    by false told p or rest = ⊎-elim (λ e. absurd (true≢false (sym e ∙ told))) (λ near. rest near (earlier-waits (fateOf s x calls (afterTake book)) p)) or

@@ -11,4 +11,5 @@ pub mod Kept
 pub mod Fates
 pub mod Counts
 pub mod Demand3
+pub mod Outcomes
 pub mod Figures
