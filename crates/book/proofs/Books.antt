@@ -1,12 +1,12 @@
 -- Laws of a book: what soundness tells of each shipper's line, and of commons used.
-use mathlib.Core.Path.{_≡_, refl, sym, ap, _∙_}
-use mathlib.Core.Bool.{Bool, true, false, _&&_}
-use mathlib.Core.List.{List, [], _∷_, _++_}
-use Prim.Native.Nat.{ℕ, zero, suc, _+_, _-_, _≤_, _<_}
+use mathlib.Core.Path.{_≡_, sym, ap, _∙_}
+use mathlib.Core.Bool.{Bool, true}
+use mathlib.Core.List.{List, []}
+use Prim.Native.Nat.{ℕ, zero, suc, _-_, _≤_, _<_}
 use native.Mathlib.Omega.{arith}
 use borrow.Author.Tests.{leb-true, le-leb, ltb-true, lt-ltb}
 use lib.Dec.{leb, ltb}
-use lib.ListN.{length, drop, getD}
+use lib.ListN.{drop, getD}
 use lib.Seq.{getD-take}
 use Rattle.book.specs.Line.{waiting, areProper, areZero}
 use Rattle.book.specs.Figures.{shippers, reserve, ceiling, commons, lineAt, waitingOf, has, beyond, commonsUsed}

@@ -1,15 +1,15 @@
 -- What goes in comes out once or waits: each call moves a shipper's number in, out, or leaves it, and the sum over a run.
-use mathlib.Core.Path.{_≡_, refl, sym, ap, _∙_}
+use mathlib.Core.Path.{_≡_, sym, ap, _∙_}
 use mathlib.Core.Logic.{⊎-elim}
 use mathlib.Core.Bool.{Bool, true, false, _&&_, cond, and-false, and-true}
 use mathlib.Core.List.{List, [], _∷_, _++_}
-use Prim.Native.Nat.{ℕ, zero, suc, _+_, _≤_, _<_}
+use Prim.Native.Nat.{ℕ, _+_, _<_}
 use native.Mathlib.Decide.{ℕ-discrete}
 use native.Mathlib.Omega.{arith}
 use borrow.Author.Tests.{eq-eqb, ne-eqb}
 use lib.Dec.{eqb}
-use lib.ListN.{length, drop, getD}
-use Rattle.refusals.specs.Told.{Told, done, refused}
+use lib.ListN.{drop, getD}
+use Rattle.refusals.specs.Told.{Told}
 use Rattle.book.specs.Line.{without}
 use Rattle.book.specs.Figures.{waitingOf, has, put}
 use Rattle.book.specs.Answers.{Handed}

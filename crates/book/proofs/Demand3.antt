@@ -4,8 +4,8 @@
 use mathlib.Core.Path.{_≡_, refl, sym, ap, _∙_}
 use mathlib.Core.Logic.{⊎-elim}
 use mathlib.Core.Bool.{Bool, true, false, _||_, not, cond, or-true}
-use mathlib.Core.List.{List, [], _∷_, _++_}
-use Prim.Native.Nat.{ℕ, zero, suc, _+_, _*_, _≤_, _<_}
+use mathlib.Core.List.{List, [], _∷_}
+use Prim.Native.Nat.{ℕ, suc, _+_, _*_, _≤_, _<_}
 use native.Mathlib.Nat.{lt-of-not-le}
 use native.Mathlib.Omega.{arith}
 use borrow.Author.Tests.{eq-eqb, ltb-false}
@@ -14,11 +14,10 @@ use lib.ListN.{length, getD}
 use Rattle.refusals.specs.Told.{Told, done, refused, demand, orElse, judged}
 use Rattle.book.specs.Line.{isIn}
 use Rattle.book.specs.Place.{placeOf}
-use Rattle.book.specs.Figures.{shippers, reserve, ceiling, commons, waitingOf, has, commonsUsed, emptyBook, put}
+use Rattle.book.specs.Figures.{shippers, reserve, ceiling, commons, waitingOf, has, commonsUsed, emptyBook}
 use Rattle.book.specs.Sound.{isSound}
-use Rattle.book.specs.Answers.{Handed}
 use Rattle.book.specs.Calls.{hasRoom, requestFault, requestOf, afterRequest, following, hasAny, firstFrom, nextShipper, anyWaits, takeFault, oldestOf, takeOf}
-use Rattle.book.specs.Runs.{Call, request, after, run, bookAfter, takes, goesIn, isWithdrawn, isTaken, howOften, times, waits, fateOf, NoLaterThan}
+use Rattle.book.specs.Runs.{Call, request, after, run, bookAfter, goesIn, isWithdrawn, isTaken, howOften, times, waits, fateOf, NoLaterThan}
 use Rattle.book.specs.declared.Book.{Book}
 use Rattle.book.proofs.Books.{sound-commons}
 use Rattle.book.proofs.Bools.{decided}
@@ -26,9 +25,8 @@ use Rattle.book.proofs.Calls.{accepted, request-in, room-reserve, room-
 use Rattle.book.proofs.Counts.{balance}
 use Rattle.book.proofs.Fates.{left, bound, still-waiting}
 use Rattle.book.proofs.Kept.{Kept, kept-empty, kept-after, kept-run, at-ceiling, at-proper, empty-waiting, waiting-entered}
-use Rattle.book.proofs.Puts.{waiting-put}
 use Rattle.book.proofs.Shape.{Shaped}
-use Rattle.book.proofs.Turns.{first-same, following-known, next-known, turnsTo, turns-few}
+use Rattle.book.proofs.Turns.{first-same, following-known, next-known, turns-few}
 use Rattle.book.proofs.Waiting.{in-append, place-new, times-append, times-none, times-once}
 
 -- The figures of 01: 'reserve 2, ceiling 8 and commons 8'.

@@ -7,22 +7,19 @@ use mathlib.Core.List.{List, [], _∷_, _++_}
 use Prim.Native.Nat.{ℕ, zero, suc, _+_, _*_, _≤_, _<_}
 use native.Mathlib.Decide.{ℕ-discrete}
 use native.Mathlib.Omega.{arith}
-use borrow.Author.Tests.{eq-eqb, ne-eqb, lt-ltb, ltb-true, eqb-true}
-use lib.Dec.{eqb, ltb}
+use borrow.Author.Tests.{eq-eqb, ne-eqb, lt-ltb, ltb-true}
+use lib.Dec.{eqb}
 use lib.ListN.{length, drop, getD}
 use Rattle.refusals.specs.Told.{Told, done, refused}
 use Rattle.book.specs.Line.{isIn, without}
 use Rattle.book.specs.Place.{placeOf}
 use Rattle.book.specs.Figures.{waitingOf, has, put}
-use Rattle.book.specs.Sound.{isSound}
 use Rattle.book.specs.Answers.{Handed}
-use Rattle.book.specs.Calls.{requestOf, afterRequest, withdrawalOf, afterWithdrawal, takeOf, afterTake, following, hasAny, firstFrom, nextShipper, anyWaits, oldestOf}
+use Rattle.book.specs.Calls.{afterRequest, afterWithdrawal, takeOf, afterTake, following, hasAny, nextShipper, anyWaits, oldestOf}
 use Rattle.book.specs.Runs.{Call, request, withdrawal, take, after, run, takes, isDone, isHanded, isWithdrawn, isTaken, Fate, taken, withdrawn, waits, earlier, fateOf, NoLaterThan}
 use Rattle.book.specs.declared.Book.{Book}
-use Rattle.book.proofs.Books.{sound-last}
-use Rattle.book.proofs.Bools.{decided}
 use Rattle.book.proofs.Calls.{take-handed}
-use Rattle.book.proofs.Kept.{Kept, kept-after, Unchanged, WentIn, WentOut, WasServed, request-did, withdrawal-did, take-did}
+use Rattle.book.proofs.Kept.{Kept, kept-after, WasServed, request-did, withdrawal-did, take-did}
 use Rattle.book.proofs.Lists.{in-place}
 use Rattle.book.proofs.Puts.{waiting-put, waiting-put-other}
 use Rattle.book.proofs.Turns.{following-known, next-known, turnsTo, turns-few, turns-served, nearer}

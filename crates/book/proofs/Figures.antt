@@ -1,13 +1,12 @@
 -- 01's figure of the book, as an equation: shipper 0 sends nine, the ninth is 24; shipper 1 sends five, the fifth is 25;
 -- shipper 2's first goes in.
 use mathlib.Core.Path.{_≡_, refl}
-use mathlib.Core.List.{List, [], _∷_}
 use Prim.Native.Nat.{ℕ, zero, suc}
-use Rattle.refusals.specs.Told.{Told, done, refused}
-use Rattle.book.specs.Line.{places, waiting, lineOf, isIn, without, areProper, areZero}
+use Rattle.refusals.specs.Told.{done, refused}
+use Rattle.book.specs.Line.{places, waiting, lineOf, isIn, areProper, areZero}
 use Rattle.book.specs.Figures.{shippers, reserve, ceiling, commons, lineAt, waitingOf, has, beyond, commonsUsed, put, emptyBook}
 use Rattle.book.specs.Sound.{isLineSound, isSoundAt, areLinesSound, isSound}
-use Rattle.book.specs.Calls.{hasRoom, requestFault, requestOf, afterRequest, following, hasAny, firstFrom, nextShipper, anyWaits, takeFault, oldestOf, takeOf, afterTake}
+use Rattle.book.specs.Calls.{hasRoom, requestFault, requestOf, afterRequest}
 use Rattle.book.specs.declared.Book.{Book}
 
 -- the book after a shipper has sent the numbers 1, 2, .. up to n

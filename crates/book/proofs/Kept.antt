@@ -1,24 +1,23 @@
 -- What each call does, by cases of its answer, and that every call keeps a book sound.
 use mathlib.Core.Path.{_≡_, refl, sym, ap, _∙_, subst}
 use mathlib.Core.Logic.{_⊎_, inl, inr, ⊎-elim}
-use mathlib.Core.Bool.{Bool, true, false, _||_}
+use mathlib.Core.Bool.{Bool, true, _||_}
 use mathlib.Core.List.{List, [], _∷_, _++_}
-use Prim.Native.Nat.{ℕ, zero, suc, _+_, _-_, _≤_, _<_}
+use Prim.Native.Nat.{ℕ, zero, suc, _+_, _≤_, _<_}
 use native.Mathlib.Omega.{arith}
-use borrow.Author.Tests.{ltb-true, ltb-false}
+use borrow.Author.Tests.{ltb-true}
 use lib.Dec.{ltb}
 use lib.ListN.{length, drop, length-append, length-drop}
 use Rattle.refusals.specs.Told.{Told, done, refused}
-use Rattle.book.specs.Line.{places, waiting, lineOf, isIn, without, areProper, areZero}
+use Rattle.book.specs.Line.{places, waiting, lineOf, without, areProper, areZero}
 use Rattle.book.specs.Figures.{shippers, reserve, ceiling, commons, lineAt, waitingOf, has, beyond, commonsUsed, put, emptyBook}
 use Rattle.book.specs.Sound.{isLineSound, isSoundAt, areLinesSound, isSound}
-use Rattle.book.specs.Answers.{Handed}
 use Rattle.book.specs.Calls.{requestOf, afterRequest, withdrawalOf, afterWithdrawal, takeOf, afterTake, hasRoom, hasAny, nextShipper, oldestOf}
 use Rattle.book.specs.Runs.{Call, request, withdrawal, take, after, run}
 use Rattle.book.specs.declared.Book.{Book}
 use Rattle.book.proofs.Books.{at-count, has-count, line-proper, sound-at, sound-book, sound-commons, sound-last, sound-lines}
 use Rattle.book.proofs.Bools.{decided}
-use Rattle.book.proofs.Calls.{Accepted, accepted, Granted, granted, HandedOut, handed-out, changed, unchanged}
+use Rattle.book.proofs.Calls.{Accepted, accepted, Granted, granted, handed-out, changed, unchanged}
 use Rattle.book.proofs.Puts.{shaped-put, lines-put, commons-put, waiting-put}
 use Rattle.book.proofs.Shape.{Shaped}
 use Rattle.book.proofs.Turns.{next-known, next-any}

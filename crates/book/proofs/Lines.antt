@@ -6,7 +6,7 @@ use mathlib.Core.List.{List, [], _∷_, _++_, append-assoc}
 use Prim.Native.Nat.{ℕ, suc, _+_, _-_, _≤_, _<_}
 use native.Mathlib.Numerals.{add-one}
 use native.Mathlib.Omega.{arith}
-use lib.ListN.{length, take, drop, getD, set, replicate, length-append, length-drop, length-replicate, take-append-drop, replicate-append-replicate}
+use lib.ListN.{length, take, drop, getD, set, replicate, length-append, length-drop, take-append-drop, replicate-append-replicate}
 use lib.Seq.{length-take-le, set-at, take-suc, take-all}
 use Rattle.book.specs.Line.{waiting, lineOf, places, areZero}
 use Rattle.book.specs.Place.{givenUp}

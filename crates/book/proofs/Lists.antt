@@ -1,14 +1,14 @@
 -- Laws of numbers that wait, as lists: where one stands, what is left when one goes, and zeros.
 use mathlib.Core.Path.{_≡_, refl, sym, ap, _∙_}
-use mathlib.Core.Bool.{Bool, true, false, _&&_, _||_, not, cond}
+use mathlib.Core.Bool.{Bool, true, false, _||_, cond}
 use mathlib.Core.List.{List, [], _∷_, _++_, append-assoc}
-use Prim.Native.Nat.{ℕ, zero, suc, _+_, _-_, _≤_, _<_}
+use Prim.Native.Nat.{ℕ, suc, _+_, _-_, _≤_, _<_}
 use native.Mathlib.Nat.{suc-add}
 use native.Mathlib.Numerals.{add-one}
 use native.Mathlib.Omega.{arith}
 use borrow.Author.Tests.{eqb-true, eq-eqb, ne-eqb, lt-ltb, le-ltb}
 use lib.Dec.{eqb, ltb, leb·suc-suc}
-use lib.ListN.{length, take, drop, getD, replicate, length-append, length-take, length-drop, take-append-drop, List·getD-append, replicate-append-replicate}
+use lib.ListN.{length, take, drop, getD, replicate, length-append, length-drop, List·getD-append}
 use lib.Seq.{drop-cons, take-append-le, drop-append-le, getD-drop, getD-take, getD-append-add, length-take-le, drop-length}
 use Rattle.book.specs.Line.{isIn, without, areProper, areZero}
 use Rattle.book.specs.Place.{placeOf, givenUp}

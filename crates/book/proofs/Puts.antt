@@ -1,19 +1,18 @@
 -- Laws of a book with one shipper's line put anew: that line, the others, the figures, the commons used.
-use mathlib.Core.Path.{_≡_, refl, sym, ap, _∙_}
-use mathlib.Core.Logic.{_⊎_, inl, inr}
-use mathlib.Core.Bool.{Bool, true, false, _&&_, not}
-use mathlib.Core.List.{List, [], _∷_, _++_}
+use mathlib.Core.Path.{_≡_, refl, ap, _∙_}
+use mathlib.Core.Bool.{true}
+use mathlib.Core.List.{List}
 use Prim.Native.Nat.{ℕ, zero, suc, _+_, _-_, _≤_, _<_}
 use native.Mathlib.Decide.{ℕ-discrete}
 use native.Mathlib.Omega.{arith}
-use lib.ListN.{length, drop, getD, set, replicate, length-append, length-replicate, length-set}
+use lib.ListN.{length, replicate, length-append, length-replicate, length-set}
 use lib.Seq.{getD-set-same, getD-set-other, take-at, drop-at}
-use Rattle.book.specs.Line.{places, waiting, lineOf, isIn, without, areProper, areZero}
-use Rattle.book.specs.Figures.{shippers, reserve, ceiling, commons, lineAt, waitingOf, has, beyond, commonsUsed, put}
-use Rattle.book.specs.Sound.{isLineSound, isSoundAt, areLinesSound, isSound}
+use Rattle.book.specs.Line.{places, waiting, lineOf, areProper, areZero}
+use Rattle.book.specs.Figures.{reserve, ceiling, lineAt, waitingOf, has, beyond, commonsUsed, put}
+use Rattle.book.specs.Sound.{isLineSound, isSoundAt, areLinesSound}
 use Rattle.book.specs.declared.Book.{Book}
 use Rattle.book.specs.declared.Line.{Line}
-use Rattle.book.proofs.Books.{line-sound, sound-at, sound-each, sound-lines, sound-book}
+use Rattle.book.proofs.Books.{line-sound, sound-at, sound-each}
 use Rattle.book.proofs.Shape.{Shaped}
 
 -- the line of some numbers: its shape, what waits in it, its soundness

@@ -1,5 +1,5 @@
 -- 01, 'The book': 'The figures places 16, reserve 2, ceiling 8 and commons 8 belong to the book.'
-use mathlib.Core.List.{List, [], _∷_}
+use mathlib.Core.List.{List, []}
 use Prim.Native.Nat.{ℕ, _+_, _-_}
 use lib.ListN.{length, getD, set, replicate}
 use Rattle.book.specs.Line.{waiting, lineOf}

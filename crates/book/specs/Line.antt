@@ -1,7 +1,7 @@
 -- What waits in a shipper's line, oldest first, and the record that keeps it.
 use mathlib.Core.Bool.{Bool, true, false, _&&_, _||_, not, cond}
 use mathlib.Core.List.{List, [], _∷_, _++_}
-use Prim.Native.Nat.{ℕ, zero, suc, _-_}
+use Prim.Native.Nat.{ℕ, _-_}
 use lib.Dec.{eqb}
 use lib.ListN.{length, take, replicate}
 use Rattle.book.specs.declared.Line.{Line}

@@ -1,11 +1,8 @@
 -- `book::enter` meets its contract: an accepted request finds a place in its shipper's line.
-use mathlib.Core.Path.{_≡_, refl, ap}
-use mathlib.Core.List.{List}
+use mathlib.Core.Path.{ap}
 use native.Mathlib.Omega.{arith}
-use borrow.Author.Needs.{needs}
 use lib.ListN.{set}
 use Rattle.book.specs.Figures.{lineAt, waitingOf, put}
-use Rattle.book.specs.declared.Book.{Book}
 use Rattle.book.specs.declared.Line.{Line}
 use Rattle.book.proofs.Books.{at-count, at-sound, line-unused, sound-lines}
 use Rattle.book.proofs.Calls.{Accepted, accepted}
@@ -17,7 +14,7 @@ told : (c : tie.Start) → Accepted (c .args .t1) (c .args .shipper) (c .args .n
 told c = accepted (c .args .t1) (c .args .shipper) (c .args .number) (c .pre)
 
 mul-lengthen : tie.Need-mul-lengthen
-mul-lengthen c = search needs
+mul-lengthen c = omega arith
 
 element-copy-out-lengthen : tie.Need-element-copy-out-lengthen
 element-copy-out-lengthen c = told c .known
@@ -33,7 +30,7 @@ lengthen-requires c κs =
     (omega arith, line-unused 8 (lineAt b (a .args .shipper)) (at-sound b (shaped b _ (a .good .0)) lines (a .args .shipper) known))
 
 mul-longer : tie.Need-mul-longer
-mul-longer c = search needs
+mul-longer c = omega arith
 
 element-set-from-longer : tie.Need-element-set-from-longer
 element-set-from-longer c = told (c .before .before) .known

@@ -1,9 +1,7 @@
 -- `book::remove` meets its contract: a granted withdrawal gives up the number's place.
-use mathlib.Core.Path.{_≡_, sym, ap, _∙_}
-use mathlib.Core.List.{List}
-use Prim.Native.Nat.{ℕ, _+_, _<_}
+use mathlib.Core.Path.{_≡_, ap, _∙_}
+use Prim.Native.Nat.{ℕ}
 use native.Mathlib.Omega.{arith}
-use borrow.Author.Needs.{needs}
 use lib.ListN.{set}
 use Rattle.book.specs.Line.{lineOf, waiting}
 use Rattle.book.specs.Place.{placeOf, givenUp}
@@ -20,7 +18,7 @@ told : (c : tie.Start) → Granted (c .args .t1) (c .args .shipper) (c .args .nu
 told c = granted (c .args .t1) (c .args .shipper) (c .args .number) (c .pre)
 
 mul-line : tie.Need-mul-line
-mul-line c = search needs
+mul-line c = omega arith
 
 element-copy-out-line : tie.Need-element-copy-out-line
 element-copy-out-line c = told c .known
@@ -43,7 +41,7 @@ shorten-requires c κs =
     (omega arith, here, line-unused 8 (lineAt b (a .args .shipper)) (at-sound b (shaped b _ (a .good .0)) lines (a .args .shipper) (told a .known)))
 
 mul-shorter : tie.Need-mul-shorter
-mul-shorter c = search needs
+mul-shorter c = omega arith
 
 element-set-from-shorter : tie.Need-element-set-from-shorter
 element-set-from-shorter c = told (c .before .before .before) .known

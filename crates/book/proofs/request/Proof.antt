@@ -1,5 +1,5 @@
 -- `book::request` meets its contract: the answer is the judge's, and the book is changed exactly where it is accepted.
-use mathlib.Core.Path.{_≡_, sym, ap, _∙_}
+use mathlib.Core.Path.{sym, ap, _∙_}
 use borrow.Author.Needs.{needs}
 use Rattle.book.specs.Answers.{toldEntry}
 use Rattle.book.specs.Calls.{afterRequest}
@@ -8,7 +8,7 @@ use Rattle.book.proofs.request.Statement.{statement}
 use Rattle.book.proofs.request.Tie as tie
 
 judge-request-requires : tie.Need-judge-request-requires
-judge-request-requires c κs = search needs
+judge-request-requires c κs = tt
 
 enum-told : tie.Need-enum-told
 enum-told c = search needs

@@ -1,13 +1,11 @@
 -- `book::take` meets its contract: the answer is the judge's, and the book is changed exactly where one is handed out.
 use mathlib.Core.Path.{_≡_, sym, ap, _∙_}
-use mathlib.Core.List.{List}
-use Prim.Native.Nat.{ℕ, _<_}
+use Prim.Native.Nat.{ℕ}
 use borrow.Author.Needs.{needs}
 use lib.ListN.{drop}
-use Rattle.refusals.specs.Told.{Told, done}
 use Rattle.book.specs.Answers.{Handed, toldTake}
 use Rattle.book.specs.Figures.{put, waitingOf}
-use Rattle.book.specs.Calls.{takeOf, afterTake, nextShipper}
+use Rattle.book.specs.Calls.{afterTake, nextShipper}
 use Rattle.book.proofs.Books.{sound-last}
 use Rattle.book.proofs.Calls.{HandedOut, handed-out, changed, unchanged}
 use Rattle.book.proofs.Turns.{next-known, next-any}
@@ -19,7 +17,7 @@ handed : (c : tie.After-answer) → HandedOut (c .before .before .before .args .
 handed c = handed-out (c .before .before .before .args .book) (sym (c .before .before .judge-take .ensures) ∙ ap toldTake (c .answer .given .1))
 
 judge-take-requires : tie.Need-judge-take-requires
-judge-take-requires c κs = search needs
+judge-take-requires c κs = tt
 
 enum-known-answer : tie.Need-enum-known-answer
 enum-known-answer c = search needs

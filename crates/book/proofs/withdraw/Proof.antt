@@ -1,5 +1,5 @@
 -- `book::withdraw` meets its contract: the answer is the judge's, and the book is changed exactly where it is granted.
-use mathlib.Core.Path.{_≡_, sym, ap, _∙_}
+use mathlib.Core.Path.{sym, ap, _∙_}
 use borrow.Author.Needs.{needs}
 use Rattle.book.specs.Answers.{toldWithdrawal}
 use Rattle.book.specs.Calls.{afterWithdrawal}
@@ -8,7 +8,7 @@ use Rattle.book.proofs.withdraw.Statement.{statement}
 use Rattle.book.proofs.withdraw.Tie as tie
 
 judge-withdrawal-requires : tie.Need-judge-withdrawal-requires
-judge-withdrawal-requires c κs = search needs
+judge-withdrawal-requires c κs = tt
 
 enum-told : tie.Need-enum-told
 enum-told c = search needs

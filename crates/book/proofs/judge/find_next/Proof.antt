@@ -1,9 +1,7 @@
 -- `book::judge::find_next` meets its contract. The loop's invariant: the shipper looked for is the first with any, going
 -- round from `shipper` with `tries` left. The measure is the tries left.
 use mathlib.Core.Path.{_≡_, refl, sym, ap, _∙_}
-use mathlib.Core.Bool.{Bool}
-use mathlib.Core.List.{List}
-use Prim.Native.Nat.{ℕ, suc, _+_, _-_, _≤_, _<_, _%_}
+use Prim.Native.Nat.{ℕ, _+_, _≤_, _<_, _%_}
 use native.Mathlib.Omega.{arith}
 use borrow.Author.Tests.{lt-ltb, le-ltb}
 use Rattle.book.specs.Figures.{shippers}

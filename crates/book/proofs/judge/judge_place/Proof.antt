@@ -1,11 +1,10 @@
 -- `book::judge::judge_place` meets its contract: 23, 24 and 25 in their order, each by its law.
-use mathlib.Core.Path.{_≡_, sym, ap, _∙_}
+use mathlib.Core.Path.{_≡_, sym}
 use mathlib.Core.Bool.{true, false}
-use Prim.Native.Nat.{ℕ, _≤_, _<_}
+use Prim.Native.Nat.{_<_}
 use native.Mathlib.Omega.{arith}
-use borrow.Author.Needs.{needs}
 use Rattle.book.specs.Line.{isIn}
-use Rattle.book.specs.Figures.{lineAt, waitingOf, has, reserve, ceiling, commons, commonsUsed}
+use Rattle.book.specs.Figures.{lineAt, waitingOf, has, reserve, ceiling, commons}
 use Rattle.book.specs.Sound.{areLinesSound}
 use Rattle.book.proofs.Books.{at-count, has-count, sound-lines}
 use Rattle.book.proofs.Calls.{request-23, request-24, request-25, request-in, waits-told, missing-told, room-reserve, room-commons, room-none}
@@ -32,10 +31,10 @@ unfolding lineAt ceiling
 below c = let h = many (c .before .before .before .before) in omega arith
 
 mul-line : tie.Need-mul-line
-mul-line c = search needs
+mul-line c = omega arith
 
 element-copy-out-line : tie.Need-element-copy-out-line
-element-copy-out-line c = search needs
+element-copy-out-line c = omega arith
 
 place-requires : tie.Need-place-requires
 unfolding lineAt

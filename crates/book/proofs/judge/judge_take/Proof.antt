@@ -1,18 +1,14 @@
 -- `book::judge::judge_take` meets its contract: 20 and 27 in their order, each by its law.
 use mathlib.Core.Path.{_≡_, sym, ap, _∙_}
-use mathlib.Core.Bool.{Bool, true, false}
-use Prim.Native.Nat.{ℕ, _≤_, _<_}
+use mathlib.Core.Bool.{Bool, true}
+use Prim.Native.Nat.{_≤_, _<_}
 use native.Mathlib.Nat.{pos-of-ne-zero}
 use native.Mathlib.Omega.{arith}
-use borrow.Author.Needs.{needs}
 use borrow.Author.Tests.{not-true, not-false, lt-ltb, le-ltb}
 use lib.Dec.{ltb}
-use lib.ListN.{getD}
-use lib.Seq.{getD-take}
 use Rattle.refusals.specs.Told.{Told, done}
 use Rattle.book.specs.Answers.{Handed}
-use Rattle.book.specs.Line.{waiting}
-use Rattle.book.specs.Figures.{lineAt, waitingOf, has}
+use Rattle.book.specs.Figures.{lineAt}
 use Rattle.book.specs.Calls.{hasAny, nextShipper, anyWaits, oldestOf}
 use Rattle.book.specs.Sound.{isSound}
 use Rattle.book.proofs.Books.{has-count, oldest-first, sound-lines, sound-last}
@@ -38,7 +34,7 @@ some c is =
     sym (next-any b (sound-last b (sound (c .before)))) ∙ ap (hasAny b) (sym (c .find-next .ensures)) ∙ ap (ltb 0) many ∙ is
 
 is-sound-requires : tie.Need-is-sound-requires
-is-sound-requires c κs = search needs
+is-sound-requires c κs = tt
 
 returns : tie.Need-returns
 returns c = sym (take-20 (c .before .before .args .t1) (sym (c .before .is-sound .ensures) ∙ not-true _ (c .if1 .taken)))
@@ -47,10 +43,10 @@ find-next-requires : tie.Need-find-next-requires
 find-next-requires c κs = sound c
 
 cast-at : tie.Need-cast-at
-cast-at c = search needs
+cast-at c = omega arith
 
 mul-line : tie.Need-mul-line
-mul-line c = search needs
+mul-line c = omega arith
 
 element-copy-out-line : tie.Need-element-copy-out-line
 element-copy-out-line c = known c
@@ -63,7 +59,7 @@ returns-2 c =
     sym (take-27 (f .before .before .before .args .t1) (sound (f .before)) (some f (le-ltb _ _ none)))
 
 array-read-t18 : tie.Need-array-read-t18
-array-read-t18 c = search needs
+array-read-t18 c = omega arith
 
 returns-3 : tie.Need-returns-3
 unfolding lineAt

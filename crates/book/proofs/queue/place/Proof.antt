@@ -1,9 +1,9 @@
 -- `book::queue::place` meets its contract. The loop's invariant: the place looked for is as far from `i` on as the
 -- number stands among those waiting from there. The measure is what is left to pass.
 use mathlib.Core.Path.{_≡_, refl, sym, ap, _∙_}
-use Prim.Native.Nat.{ℕ, _+_, _-_, _≤_, _<_}
+use Prim.Native.Nat.{ℕ, _+_, _-_, _≤_}
 use native.Mathlib.Omega.{arith}
-use lib.ListN.{length, take, drop, getD, length-map}
+use lib.ListN.{length, take, drop, length-map}
 use lib.Seq.{getD-take}
 use Rattle.book.specs.Line.{waiting}
 use Rattle.book.specs.Place.{placeOf}

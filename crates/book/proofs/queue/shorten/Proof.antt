@@ -1,9 +1,9 @@
 -- `book::queue::shorten` meets its contract. The loop's invariant: the first `i` of those that are left are in place, and
 -- zeros behind them. The measure is what is left to fill.
-use mathlib.Core.Path.{_≡_, refl, sym, ap, _∙_}
+use mathlib.Core.Path.{_≡_, refl, ap, _∙_}
 use mathlib.Core.Logic.{⊎-elim}
 use mathlib.Core.List.{List, _++_}
-use Prim.Native.Nat.{ℕ, _+_, _-_, _≤_, _<_}
+use Prim.Native.Nat.{ℕ, _+_, _-_, _≤_}
 use native.Mathlib.Omega.{arith}
 use lib.ListN.{length, take, getD, set, replicate, length-map}
 use Rattle.book.specs.Place.{givenUp}
@@ -59,7 +59,7 @@ loop-again c =
     let i = c .before .before .loop .i in
     let many : length (givenUp (a .args .at) (a .args .line .numbers)) + 1 ≡ length (a .args .line .numbers) = length-given-up _ _ (omega arith) in
     let value : c .if1 .rest ≡ getD (givenUp (a .args .at) (a .args .line .numbers)) i 0 =
-    ⊎-elim (λ w. w .1 ∙ given-up-before _ _ i (omega arith) (w .0 .taken)) (λ w. w .1 ∙ given-up-behind _ _ i (omega arith) (w .0 .left)) (c .if1 .came) in
+    ⊎-elim (λ w. w .1 ∙ given-up-before (a .args .at) (a .args .line .numbers) i (omega arith) (w .0 .taken)) (λ w. w .1 ∙ given-up-behind (a .args .at) (a .args .line .numbers) i (omega arith) (w .0 .left)) (c .if1 .came) in
     (omega arith, ap (λ (xs : List ℕ). set xs i (c .if1 .rest)) (c .before .before .loop .inv .1) ∙ copied-next _ i _ (omega arith) (omega arith) value)
 
 sub-count : tie.Need-sub-count Inv-loop μ-loop

@@ -1,34 +1,34 @@
 -- `book::sound::are_lines_sound` meets its contract: the four lines, each with its shipper's ceiling.
+use native.Mathlib.Omega.{arith}
 use mathlib.Core.Bool.{_&&_}
 use Rattle.book.specs.Figures.{lineAt, ceiling}
 use Rattle.book.specs.Sound.{areLinesSound, isSoundAt}
-use borrow.Author.Needs.{needs}
 use Rattle.book.proofs.sound.are_lines_sound.Statement.{statement}
 use Rattle.book.proofs.sound.are_lines_sound.Tie as tie
 
 element-copy-out-is-line-sound : tie.Need-element-copy-out-is-line-sound
-element-copy-out-is-line-sound c = search needs
+element-copy-out-is-line-sound c = omega arith
 
 is-line-sound-requires : tie.Need-is-line-sound-requires
-is-line-sound-requires c κs = search needs
+is-line-sound-requires c κs = omega arith
 
 element-copy-out-is-line-sound-2 : tie.Need-element-copy-out-is-line-sound-2
-element-copy-out-is-line-sound-2 c = search needs
+element-copy-out-is-line-sound-2 c = omega arith
 
 is-line-sound-requires-2 : tie.Need-is-line-sound-requires-2
-is-line-sound-requires-2 c κs = search needs
+is-line-sound-requires-2 c κs = omega arith
 
 element-copy-out-is-line-sound-3 : tie.Need-element-copy-out-is-line-sound-3
-element-copy-out-is-line-sound-3 c = search needs
+element-copy-out-is-line-sound-3 c = omega arith
 
 is-line-sound-requires-3 : tie.Need-is-line-sound-requires-3
-is-line-sound-requires-3 c κs = search needs
+is-line-sound-requires-3 c κs = omega arith
 
 element-copy-out-is-line-sound-4 : tie.Need-element-copy-out-is-line-sound-4
-element-copy-out-is-line-sound-4 c = search needs
+element-copy-out-is-line-sound-4 c = omega arith
 
 is-line-sound-requires-4 : tie.Need-is-line-sound-requires-4
-is-line-sound-requires-4 c κs = search needs
+is-line-sound-requires-4 c κs = omega arith
 
 returns : tie.Need-returns
 unfolding areLinesSound isSoundAt lineAt ceiling

@@ -1,10 +1,9 @@
 -- `book::sound::are_proper` meets its contract. The loop's invariant: the waiting numbers are proper exactly when those
 -- from `i` on are. The measure is what is left to pass.
 use mathlib.Core.Path.{_≡_, refl, sym, ap, _∙_}
-use mathlib.Core.Bool.{true, false}
-use Prim.Native.Nat.{ℕ, _+_, _-_, _≤_, _<_}
+use Prim.Native.Nat.{ℕ, _+_, _-_, _≤_}
 use native.Mathlib.Omega.{arith}
-use lib.ListN.{length, take, drop, getD, length-map}
+use lib.ListN.{length, drop, getD, length-map}
 use lib.Seq.{getD-take}
 use Rattle.book.specs.Line.{waiting, isIn, areProper}
 use Rattle.book.proofs.Lists.{proper-next, proper-zero, proper-twice, proper-done, found-behind, missed-behind}

@@ -1,8 +1,7 @@
 -- `book::sound::are_unused_zero` meets its contract. The loop's invariant: the unused places are zero exactly when those
 -- from `i` on are. The measure is what is left to pass.
-use mathlib.Core.Path.{_≡_, refl, sym, ap, _∙_}
-use mathlib.Core.Bool.{Bool}
-use Prim.Native.Nat.{ℕ, _+_, _-_, _≤_, _<_}
+use mathlib.Core.Path.{_≡_, refl, sym, _∙_}
+use Prim.Native.Nat.{_-_, _≤_}
 use native.Mathlib.Omega.{arith}
 use lib.ListN.{length, drop, length-map}
 use Rattle.book.specs.Line.{areZero}

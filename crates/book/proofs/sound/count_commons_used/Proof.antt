@@ -1,37 +1,36 @@
 -- `book::sound::count_commons_used` meets its contract: each count is what the shipper has waiting, and the sum is small.
-use mathlib.Core.Path.{_≡_, _∙_}
+use mathlib.Core.Path.{_≡_}
 use Prim.Native.Nat.{ℕ, _+_, _-_, _≤_, _<_}
 use native.Mathlib.Omega.{arith}
-use Rattle.book.specs.Figures.{lineAt, commonsUsed, beyond}
+use Rattle.book.specs.Figures.{lineAt, commonsUsed}
 use Rattle.book.proofs.Books.{at-count, beyond-count}
 use Rattle.book.proofs.Shape.{Shaped, shaped}
-use borrow.Author.Needs.{needs}
 use Rattle.book.proofs.sound.count_commons_used.Statement.{statement}
 use Rattle.book.proofs.sound.count_commons_used.Tie as tie
 
 element-copy-out-count-beyond : tie.Need-element-copy-out-count-beyond
-element-copy-out-count-beyond c = search needs
+element-copy-out-count-beyond c = omega arith
 
 count-beyond-requires : tie.Need-count-beyond-requires
-count-beyond-requires c κs = search needs
+count-beyond-requires c κs = tt
 
 element-copy-out-count-beyond-2 : tie.Need-element-copy-out-count-beyond-2
-element-copy-out-count-beyond-2 c = search needs
+element-copy-out-count-beyond-2 c = omega arith
 
 count-beyond-requires-2 : tie.Need-count-beyond-requires-2
-count-beyond-requires-2 c κs = search needs
+count-beyond-requires-2 c κs = tt
 
 element-copy-out-count-beyond-3 : tie.Need-element-copy-out-count-beyond-3
-element-copy-out-count-beyond-3 c = search needs
+element-copy-out-count-beyond-3 c = omega arith
 
 count-beyond-requires-3 : tie.Need-count-beyond-requires-3
-count-beyond-requires-3 c κs = search needs
+count-beyond-requires-3 c κs = tt
 
 element-copy-out-count-beyond-4 : tie.Need-element-copy-out-count-beyond-4
-element-copy-out-count-beyond-4 c = search needs
+element-copy-out-count-beyond-4 c = omega arith
 
 count-beyond-requires-4 : tie.Need-count-beyond-requires-4
-count-beyond-requires-4 c κs = search needs
+count-beyond-requires-4 c κs = tt
 
 shape : (c : tie.Start) → Shaped (c .args .t1)
 shape c = shaped (c .args .t1) _ (c .good .0)

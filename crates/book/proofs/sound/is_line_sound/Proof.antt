@@ -1,7 +1,6 @@
 -- `book::sound::is_line_sound` meets its contract: the tests in their order.
-use mathlib.Core.Path.{_≡_, sym, ap, _∙_}
-use mathlib.Core.Bool.{Bool, _&&_}
-use borrow.Author.Needs.{needs}
+use native.Mathlib.Omega.{arith}
+use mathlib.Core.Path.{sym, _∙_}
 use borrow.Author.Tests.{le-leb, lt-leb}
 use Rattle.book.specs.Sound.{isLineSound}
 use Rattle.book.proofs.sound.is_line_sound.Statement.{statement}
@@ -12,10 +11,10 @@ unfolding isLineSound
 returns c = rw (lt-leb _ _ (c .if1 .taken))
 
 are-proper-requires : tie.Need-are-proper-requires
-are-proper-requires c κs = search needs
+are-proper-requires c κs = omega arith
 
 are-unused-zero-requires : tie.Need-are-unused-zero-requires
-are-unused-zero-requires c κs = search needs
+are-unused-zero-requires c κs = omega arith
 
 returns-2 : tie.Need-returns-2
 unfolding isLineSound

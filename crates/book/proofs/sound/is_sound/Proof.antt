@@ -1,17 +1,15 @@
 -- `book::sound::is_sound` meets its contract: the lines, then the commons, then the last served.
-use mathlib.Core.Path.{_≡_, sym, ap, _∙_}
-use mathlib.Core.Bool.{Bool, true, _&&_}
-use Prim.Native.Nat.{ℕ, _≤_}
-use borrow.Author.Needs.{needs}
+use mathlib.Core.Path.{sym, ap, _∙_}
+use Prim.Native.Nat.{ℕ}
 use borrow.Author.Tests.{le-leb, lt-leb}
 use lib.Dec.{leb}
-use Rattle.book.specs.Figures.{shippers, commons, commonsUsed}
-use Rattle.book.specs.Sound.{areLinesSound, isSound}
+use Rattle.book.specs.Figures.{shippers, commons}
+use Rattle.book.specs.Sound.{isSound}
 use Rattle.book.proofs.sound.is_sound.Statement.{statement}
 use Rattle.book.proofs.sound.is_sound.Tie as tie
 
 are-lines-sound-requires : tie.Need-are-lines-sound-requires
-are-lines-sound-requires c κs = search needs
+are-lines-sound-requires c κs = tt
 
 count-commons-used-requires : tie.Need-count-commons-used-requires
 count-commons-used-requires c κs = sym (c .before .are-lines-sound .ensures) ∙ c .if1 .taken
