@@ -1,0 +1,102 @@
+use mathlib.Core.Path.{_≡_, ap, _∙_}
+use mathlib.Core.Bool.{Bool, _&&_}
+use Prim.Native.Nat.{_<_}
+use lib.IntN.{ℤ, pos, negsuc}
+use lib.Signed.{mag}
+use mir.Syntax.{w16}
+use mir.Val.{toZ, ofZ}
+use Rattle.ranges.specs.Within.{withinSigned}
+use Rattle.ranges.specs.Table.{drawProverOk, drawMeasureOk, coefficientOk, ctdwOk, pressureOk}
+use Rattle.draw.proofs.Fields.{passed-on}
+use Rattle.draw.specs.Fill.{fieldsOk, certifiedOk, scaleOk}
+use borrow.Author.Needs.{needs}
+use Rattle.draw.proofs.fills.are_fields_in_range.Statement.{statement}
+use Rattle.draw.proofs.fills.are_fields_in_range.Tie as tie
+use Rattle.draw.proofs.fills.are_fields_in_range.Reads as reads
+use Rattle.draw.proofs.fills.are_fields_in_range.Lts as lts
+use Rattle.ranges.proofs.is_within.Reads as is-within-reads
+use Rattle.ranges.proofs.is_within_signed.Reads as is-within-signed-reads
+
+-- src/fills.rt:35:23
+cast-is-within : tie.Need-cast-is-within
+cast-is-within c = search needs
+
+-- src/fills.rt:35:5
+is-within-requires : tie.Need-is-within-requires
+is-within-requires c κs = search needs
+
+-- src/fills.rt:36:12
+is-within-signed-requires : tie.Need-is-within-signed-requires
+is-within-signed-requires c κs = search needs
+
+-- src/fills.rt:37:16
+is-within-signed-requires-2 : tie.Need-is-within-signed-requires-2
+is-within-signed-requires-2 c κs = search needs
+
+-- src/fills.rt:38:20
+is-within-signed-requires-3 : tie.Need-is-within-signed-requires-3
+is-within-signed-requires-3 c κs = search needs
+
+-- src/fills.rt:39:42
+cast-is-within-2 : tie.Need-cast-is-within-2
+cast-is-within-2 c = search needs
+
+-- src/fills.rt:39:24
+is-within-requires-2 : tie.Need-is-within-requires-2
+is-within-requires-2 c κs = search needs
+
+-- src/fills.rt:40:46
+cast-is-within-3 : tie.Need-cast-is-within-3
+cast-is-within-3 c = search needs
+
+-- src/fills.rt:40:28
+is-within-requires-3 : tie.Need-is-within-requires-3
+is-within-requires-3 c κs = search needs
+
+-- src/fills.rt:41:49
+cast-is-within-4 : tie.Need-cast-is-within-4
+cast-is-within-4 c = search needs
+
+-- src/fills.rt:41:31
+is-within-requires-4 : tie.Need-is-within-requires-4
+is-within-requires-4 c κs = search needs
+
+-- src/fills.rt:32:1
+-- the machine's signed test is the range's, since the field's number fits
+judged : (lo hi z : ℤ) {r : Bool} → mag z < 32768 → r ≡ withinSigned lo hi (toZ w16 (ofZ w16 z)) → r ≡ withinSigned lo hi z
+judged lo hi z fits is = is ∙ ap (withinSigned lo hi) (passed-on z fits)
+
+returns : tie.Need-returns
+unfolding fieldsOk certifiedOk scaleOk drawProverOk drawMeasureOk coefficientOk ctdwOk pressureOk
+returns c =
+    let c3 = c .before .before in
+    let c2 = c3 .before .before in
+    let s3 = c2 .before .before in
+    let s2 = s3 .before .before in
+    let s1 = s2 .before .before in
+    let c1 = s1 .before .before in
+    let fill = c1 .before .before .args .fill in
+    λ i. c1 .is-within .ensures i
+    && (judged (negsuc 9999) (pos 10000) (fill .scale) (s1 .before .struct-told .given .1 .0 .1) (s1 .is-within-signed .ensures) i
+    && (judged (pos 350) (pos 1050) (fill .prover) (s2 .before .struct-told2 .given .1 .1 .0 .1) (s2 .is-within-signed2 .ensures) i
+    && (judged (pos 321) (pos 1050) (fill .measure) (s3 .before .struct-told3 .given .1 .1 .1 .0 .1) (s3 .is-within-signed3 .ensures) i
+    && (c2 .is-within2 .ensures i
+    && (c3 .is-within3 .ensures i
+    && c .is-within4 .ensures i)))))
+
+pub are-fields-in-range-spec : {M : Type 1} → statement M
+are-fields-in-range-spec =
+    tie.close
+    (tie.spec
+    cast-is-within
+    is-within-requires
+    is-within-signed-requires
+    is-within-signed-requires-2
+    is-within-signed-requires-3
+    cast-is-within-2
+    is-within-requires-2
+    cast-is-within-3
+    is-within-requires-3
+    cast-is-within-4
+    is-within-requires-4
+    returns)
