@@ -1,2 +1,5 @@
 pub mod Fields
 pub mod Magnitudes
+pub mod Sound
+pub mod Volumes
+pub mod Outcome
