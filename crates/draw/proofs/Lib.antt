@@ -3,3 +3,5 @@ pub mod Magnitudes
 pub mod Sound
 pub mod Volumes
 pub mod Outcome
+pub mod Rule
+pub mod Figures

@@ -20,7 +20,7 @@ use Rattle.draw.specs.Passes.{fillsIn, lengthOk, passCount, volumesTo, v
 use Rattle.draw.specs.Base.{baseFrom}
 use Rattle.draw.specs.declared.Verdict.{Verdict}
 use Rattle.draw.specs.declared.Verdict.the-variants.{Fine, Faulty}
-use Rattle.draw.specs.declared.Figures.{Figures}
+use Rattle.draw.specs.declared.FillFigures.{FillFigures}
 use Rattle.draw.specs.declared.FillAnswer.{FillAnswer}
 use Rattle.draw.specs.declared.FillAnswer.the-variants.{Figures as Worked, Refused as Fill·Refused}
 use Rattle.draw.specs.declared.Counted.{Counted}
@@ -35,7 +35,7 @@ faultOf Fine = fine
 faultOf (Faulty refusal) = fault (numberOf refusal) (recordOf refusal)
 
 -- a fill's figures, or the paper's number and record
-abbrev pub toldFill : FillAnswer → Told Figures
+abbrev pub toldFill : FillAnswer → Told FillFigures
 toldFill (Worked figures) = done figures
 toldFill (Fill·Refused refusal) = refused (numberOf refusal) (recordOf refusal)
 
@@ -66,7 +66,7 @@ drawFault prover s =
     (demand (passesOk (passCount s)) 1)))
 
 -- one fill: 1 unless the record is whole and alone, 3 for the metal, then 5 and 2
-unfoldable pub fillOf : Metal → List ℕ → Told Figures
+unfoldable pub fillOf : Metal → List ℕ → Told FillFigures
 fillOf metal s =
     judged
     (orElse (demand (eqb (length s) 32) 1)

@@ -6,7 +6,7 @@ use Rattle.factors.specs.Fractions.{cts}
 use Rattle.factors.specs.Metal.{coefficientOf}
 use Rattle.factors.specs.declared.Metal.{Metal}
 use Rattle.draw.specs.declared.FillRecord.{FillRecord}
-use Rattle.draw.specs.declared.Figures.{Figures}
+use Rattle.draw.specs.declared.FillFigures.{FillFigures}
 
 -- 'adjusted measure = certified volume + scale reading', above zero in the paper's ranges
 unfoldable pub adjusted : FillRecord → ℕ
@@ -29,7 +29,7 @@ unfoldable pub drawn : Metal → FillRecord → ℕ
 drawn metal fill = roundedDiv (adjusted fill * fill .ctdw * ccts metal fill) (10 ^ 12)
 
 -- the figures of one fill
-unfoldable pub figuresOf : Metal → FillRecord → Figures
+unfoldable pub figuresOf : Metal → FillRecord → FillFigures
 figuresOf metal fill = record {
   adjusted = adjusted fill;
   measure = measureCts fill;

@@ -1,5 +1,5 @@
 // One fill: its record read and judged, and its figures.
-use crate::Figures;
+use crate::FillFigures;
 use crate::FillRecord;
 use factors::Metal;
 use factors::Places;
@@ -80,7 +80,7 @@ fn adjust(fill: FillRecord) -> u64
 }
 
 // The fill's figures, for a caller that has judged the metal and the record.
-pub(crate) fn work_out(metal: Metal, fill: FillRecord) -> Figures
+pub(crate) fn work_out(metal: Metal, fill: FillRecord) -> FillFigures
     requires { ⌜ (metalOk metal ≡ true) × (fieldsOk fill ≡ true) ⌝ }
     ensures { λ r. ⌜ r ≡ figuresOf metal fill ⌝ }
 {
@@ -95,7 +95,7 @@ pub(crate) fn work_out(metal: Metal, fill: FillRecord) -> Figures
     let ccts = exact::value_or_zero(exact::rounded_ratio(measure, 1000000, prover));
     let expanded = adjusted * fill.ctdw as u64;
     let drawn = exact::value_or_zero(exact::rounded_ratio(expanded, ccts, 1000000000000));
-    Figures {
+    FillFigures {
         adjusted,
         measure,
         prover,

@@ -38,7 +38,7 @@ enum Verdict {
 
 // One fill's figures: the adjusted measure, CTS of the measure and of the prover, CCTS, and the volume
 // drawn.
-pub struct Figures {
+pub struct FillFigures {
     pub adjusted: u64,
     pub measure: u64,
     pub prover: u64,
@@ -47,7 +47,7 @@ pub struct Figures {
 }
 
 pub enum FillAnswer {
-    Figures(Figures),
+    Figures(FillFigures),
     Refused(Refusal),
 }
 

@@ -3,7 +3,7 @@ use mathlib.Core.Path.{ap, _∙_}
 use native.Mathlib.Omega.{arith}
 use Rattle.draw.specs.Fill.{fieldsOk}
 use Rattle.draw.specs.Drawn.{figuresOf}
-use Rattle.draw.specs.declared.Figures.{Figures}
+use Rattle.draw.specs.declared.FillFigures.{FillFigures}
 use Rattle.draw.proofs.Magnitudes.{drawn-most}
 use Rattle.draw.proofs.Volumes.{adds, adds-nothing}
 use borrow.Author.Needs.{needs}
@@ -22,7 +22,7 @@ returns c =
     let r = c .before .before .before in
     let s = r .before .before in
     let a = s .args in
-    let drew = ap (λ (f : Figures). f .drawn) (c .work-out .ensures) in
+    let drew = ap (λ (f : FillFigures). f .drawn) (c .work-out .ensures) in
     (adds (a .s .now) (a .i) (r .read .ensures) (a .metal) (c .before .if1 .taken) drew, omega (arith, drew, drawn-most (a .metal) (r .read .result) (s .pre .1) (ap fieldsOk (r .read .ensures) ∙ s .pre .2)))
 
 returns-2 : tie.Need-returns-2
