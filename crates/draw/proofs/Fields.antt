@@ -1,6 +1,6 @@
 -- What a record whose fields are in range holds, as facts that arithmetic can use; and the scale reading without a number below zero.
 use mathlib.Core.Path.{_≡_, refl, sym, ap, _∙_, subst}
-use mathlib.Core.Bool.{Bool, true, _&&_, and-true}
+use mathlib.Core.Bool.{true, and-true}
 use mathlib.Core.List.{List}
 use Prim.Native.Nat.{ℕ, zero, suc, _+_, _-_, _<_, _≤_}
 use native.Mathlib.Omega.{arith}

@@ -3,7 +3,7 @@ use mathlib.Core.Path.{_≡_, refl}
 use mathlib.Core.List.{List, [], _∷_, _++_}
 use Prim.Native.Nat.{ℕ}
 use lib.ListN.{replicate}
-use Rattle.refusals.specs.Told.{Told, done, refused}
+use Rattle.refusals.specs.Told.{done, refused}
 use Rattle.ranges.specs.Table.{drawProverOk, drawMeasureOk, coefficientOk, ctdwOk, pressureOk, diameterOk, wallOk, modulusOk, fillsOk, passesOk}
 use Rattle.octets.specs.Octets.{numberAt, byteAt, wordAt, longAt, signedOf, signedAt, isZeroAt, zeroBetween, bytesOf}
 use Rattle.octets.specs.FirstToLast.{firstToLast, placeIf}

@@ -1,7 +1,7 @@
 -- The magnitudes of a fill's figures within the paper's ranges, and that the code's quotients are the paper's: drawn's product passes 64 bits.
-use mathlib.Core.Path.{_≡_, refl, sym, ap, _∙_}
+use mathlib.Core.Path.{_≡_, ap, _∙_}
 use mathlib.Core.Bool.{true}
-use Prim.Native.Nat.{ℕ, _+_, _*_, _-_, _^_, _≤_, _<_}
+use Prim.Native.Nat.{ℕ, _*_, _≤_, _<_}
 use native.Mathlib.Nat.{mul-le-mul}
 use native.Mathlib.Omega.{arith}
 use lib.IntN.{ℤ}
@@ -9,7 +9,7 @@ use mir.Syntax.{w16}
 use mir.Val.{toZ, ofZ}
 use Rattle.ranges.specs.Table.{temperatureOk, coefficientOk}
 use Rattle.ranges.proofs.Laws.{within-high}
-use Rattle.exact.specs.Rounding.{roundedDiv, rounded, _over_}
+use Rattle.exact.specs.Rounding.{rounded}
 use Rattle.exact.specs.Quotient.{quotientOf, valueOrZero}
 use Rattle.exact.proofs.Rounding.{at-most, at-least}
 use Rattle.exact.proofs.Answers.{value-below}

@@ -1,11 +1,11 @@
 -- The answers lose nothing: two that tell the same are the same. And what the passes' answer says to the draw.
-use mathlib.Core.Path.{_≡_, refl, sym, ap, _∙_}
+use mathlib.Core.Path.{_≡_, sym, ap, _∙_}
 use mathlib.Core.List.{List}
 use Prim.Native.Nat.{ℕ, _≤_}
 use native.Mathlib.Omega.{arith}
 use lib.ListN.{length, take}
 use Rattle.refusals.specs.Table.{numberOf, recordOf}
-use Rattle.refusals.specs.Told.{Told, done, refused, Fault, fine, fault}
+use Rattle.refusals.specs.Told.{Told, done, refused, Fault, fine}
 use Rattle.refusals.specs.declared.Refusal.{Refusal}
 use Rattle.refusals.proofs.Laws.{refusal-one, done-one, refused-number, refused-record}
 use Rattle.group.specs.Repeatability.{firstGroup}

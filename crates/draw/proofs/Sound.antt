@@ -1,12 +1,12 @@
 -- What a draw in which judging found nothing holds: its length, its settings, every record, the pass rule and the count of passes.
-use mathlib.Core.Path.{_≡_, refl, sym, ap, _∙_}
+use mathlib.Core.Path.{_≡_, refl}
 use mathlib.Core.Bool.{Bool, true, false, _&&_}
 use mathlib.Core.List.{List}
 use Prim.Native.Nat.{ℕ, _+_, _%_, _≤_, _<_}
 use native.Mathlib.Omega.{arith}
 use lib.Dec.{eqb}
 use lib.ListN.{length}
-use Rattle.refusals.specs.Told.{Told, done, refused, Fault, fine, fault, demand, demandAt, orElse, judged}
+use Rattle.refusals.specs.Told.{done, refused, Fault, fine, fault, demand, demandAt, orElse, judged}
 use Rattle.ranges.specs.Table.{fillsOk, passesOk}
 use Rattle.ranges.proofs.Laws.{both-first, both-second, within-low, within-high}
 use Rattle.octets.specs.FirstToLast.{scan}
@@ -14,7 +14,7 @@ use Rattle.octets.proofs.FirstToLast.{faults, empty}
 use Rattle.factors.specs.Metal.{metalOk}
 use Rattle.factors.specs.Answers.{pipeOk}
 use Rattle.factors.specs.declared.Prover.{Prover}
-use Rattle.draw.specs.Fill.{fillAt, fieldsOk, unnamedOk, ruleOk}
+use Rattle.draw.specs.Fill.{fillAt, fieldsOk, ruleOk}
 use Rattle.draw.specs.Passes.{fillsIn, lengthOk, passCount}
 use Rattle.draw.specs.Answers.{recordFault, fillFault, drawFault}
 

@@ -4,9 +4,9 @@ use mathlib.Core.List.{List}
 use Prim.Native.Nat.{ℕ, zero, suc, _+_, _*_}
 use lib.Dec.{eqb}
 use lib.IntN.{ℤ, pos, negℤ}
-use Rattle.octets.specs.Octets.{byteAt, wordAt, longAt, signedAt, zeroBetween}
 use Rattle.ranges.specs.Within.{within, withinSigned}
 use Rattle.ranges.specs.Table.{drawProverOk, drawMeasureOk, coefficientOk, ctdwOk, pressureOk}
+use Rattle.octets.specs.Octets.{byteAt, wordAt, longAt, signedAt, zeroBetween}
 use Rattle.draw.specs.declared.FillRecord.{FillRecord}
 
 -- 'Fill: 0 certified volume (4), 4 scale reading (signed 2), 6 prover T, 8 measure T (signed 2), 10 measure coefficient (2), 12 CTDW (4),

@@ -5,8 +5,8 @@ use mathlib.Core.Option.{Option, none, some}
 use Prim.Native.Nat.{ℕ, zero, suc, _+_, _-_, _*_, _/_, _%_, _^_}
 use lib.Dec.{eqb}
 use lib.ListN.{length, replicate}
-use Rattle.octets.specs.FirstToLast.{firstPlace}
 use Rattle.ranges.specs.Table.{fillsOk}
+use Rattle.octets.specs.FirstToLast.{firstPlace}
 use Rattle.exact.specs.Rounding.{roundedDiv, rounded}
 use Rattle.factors.specs.Fractions.{cps, cpl}
 use Rattle.factors.specs.declared.Metal.{Metal}

@@ -1,8 +1,8 @@
 -- `draw::base_from` meets its contract: the barrels are those of the rounded mean.
 use mathlib.Core.Path.{ap, _∙_}
 use Prim.Native.Nat.{_+_}
-use Rattle.draw.specs.Base.{barrelsOf, baseFrom}
 use borrow.Author.Needs.{needs}
+use Rattle.draw.specs.Base.{barrelsOf, baseFrom}
 use Rattle.draw.proofs.base_from.Statement.{statement}
 use Rattle.draw.proofs.base_from.Tie as tie
 

@@ -4,13 +4,13 @@ use mathlib.Core.List.{List}
 use mathlib.Core.Option.{some}
 use Prim.Native.Nat.{ℕ, _+_, _≤_}
 use native.Mathlib.Omega.{arith}
+use borrow.Author.Needs.{needs}
 use lib.ListN.{length}
 use Rattle.refusals.specs.Told.{done}
 use Rattle.group.specs.Repeatability.{firstGroup, placeOf}
-use Rattle.group.proofs.Groups.{FirstGroup, first-found, part-is-group}
+use Rattle.group.proofs.Groups.{first-found, part-is-group}
 use Rattle.draw.specs.Base.{baseFrom}
 use Rattle.draw.specs.Answers.{decidedBy}
-use borrow.Author.Needs.{needs}
 use Rattle.draw.proofs.decide.Statement.{statement}
 use Rattle.draw.proofs.decide.Tie as tie
 

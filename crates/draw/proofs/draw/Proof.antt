@@ -1,10 +1,10 @@
 -- `draw::draw` meets its contract: refused as the passes are, and otherwise decided by their volumes.
 use mathlib.Core.Path.{_≡_, sym}
 use native.Mathlib.Omega.{arith}
+use borrow.Author.Needs.{needs}
 use lib.ListN.{length, take}
 use lib.Seq.{length-take-le}
 use Rattle.draw.proofs.Outcome.{Found, passes-found, draw-decided, draw-refused}
-use borrow.Author.Needs.{needs}
 use Rattle.draw.proofs.draw.Statement.{statement}
 use Rattle.draw.proofs.draw.Tie as tie
 

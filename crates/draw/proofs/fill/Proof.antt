@@ -1,6 +1,7 @@
 -- `draw::fill` meets its contract: 1, 3, 5 and 2 in this order, and then the figures.
 use mathlib.Core.Path.{sym, ap, _∙_}
 use borrow.Author.Tests.{eq-eqb, ne-eqb}
+use borrow.Author.Needs.{needs}
 use lib.ListN.{length}
 use Rattle.refusals.specs.Told.{done}
 use Rattle.refusals.proofs.Laws.{judged-fine, judged-fault, demand-holds, demand-fails, orElse-next, orElse-first}
@@ -8,7 +9,6 @@ use Rattle.draw.specs.Fill.{fieldsOk}
 use Rattle.draw.specs.Drawn.{figuresOf}
 use Rattle.draw.specs.Answers.{faultOf, fillOf}
 use Rattle.draw.proofs.Sound.{record-fields}
-use borrow.Author.Needs.{needs}
 use Rattle.draw.proofs.fill.Statement.{statement}
 use Rattle.draw.proofs.fill.Tie as tie
 

@@ -2,11 +2,11 @@
 use mathlib.Core.Path.{ap, _∙_}
 use Prim.Native.Nat.{_*_}
 use native.Mathlib.Omega.{arith}
+use borrow.Author.Needs.{needs}
 use Rattle.exact.specs.Rounding.{rounded}
 use Rattle.exact.specs.Quotient.{valueOrZero}
 use Rattle.exact.proofs.Answers.{value-below}
 use Rattle.draw.specs.Base.{barrelsOf}
-use borrow.Author.Needs.{needs}
 use Rattle.draw.proofs.in_barrels.Statement.{statement}
 use Rattle.draw.proofs.in_barrels.Tie as tie
 

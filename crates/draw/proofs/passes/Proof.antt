@@ -2,12 +2,12 @@
 use mathlib.Core.Path.{_≡_, sym, ap, _∙_}
 use Prim.Native.Nat.{ℕ}
 use native.Mathlib.Omega.{arith}
+use borrow.Author.Needs.{needs}
 use Rattle.refusals.specs.Told.{done, fine}
 use Rattle.refusals.proofs.Laws.{judged-fine, judged-fault}
 use Rattle.draw.specs.Passes.{passCount, volumesTo, zerosAfter}
 use Rattle.draw.specs.Answers.{faultOf, drawFault, passesOf, heldFor}
 use Rattle.draw.proofs.Sound.{Sound, sound}
-use borrow.Author.Needs.{needs}
 use Rattle.draw.proofs.passes.Statement.{statement}
 use Rattle.draw.proofs.passes.Tie as tie
 

@@ -1,18 +1,16 @@
+-- `draw::fills::adjust` meets its contract: counted from -100.00 cubic inches the scale reading is a natural number.
 use mathlib.Core.Path.{_≡_, ap}
 use native.Mathlib.Omega.{arith}
+use borrow.Author.Needs.{needs}
 use lib.IntN.{pos, natAbs, _+ℤ_}
 use mir.Syntax.{w16}
 use mir.Val.{toZ, ofZ}
 use Rattle.draw.specs.Fill.{scaleOk}
 use Rattle.draw.specs.Drawn.{adjusted}
 use Rattle.draw.proofs.Fields.{Fields, fields, Scale, scaled, within-passed-on, sum-fits, cast-is, cast-fits}
-use borrow.Author.Needs.{needs}
 use Rattle.draw.proofs.fills.adjust.Statement.{statement}
 use Rattle.draw.proofs.fills.adjust.Tie as tie
-use Rattle.draw.proofs.fills.adjust.Reads as reads
-use Rattle.draw.proofs.fills.adjust.Lts as lts
 
--- src/fills.rt:78:18
 facts : (c : tie.Start) → Fields (c .args .fill)
 facts c = fields (c .args .fill) (c .pre)
 
@@ -29,23 +27,18 @@ above-is c = ap natAbs (cast-is (back c) (scale c))
 add-above : tie.Need-add-above
 add-above c = sum-fits (back (c .before .before)) (scale (c .before .before))
 
--- src/fills.rt:78:17
 cast-above : tie.Need-cast-above
 cast-above c = cast-fits (back (c .before .before)) (scale (c .before .before))
 
--- src/fills.rt:79:5
 cast-result : tie.Need-cast-result
 cast-result c = search needs
 
--- src/fills.rt:79:5
 add-result : tie.Need-add-result
 add-result c = omega (arith, above-is (c .before .before .before), facts (c .before .before .before), scale (c .before .before .before))
 
--- src/fills.rt:79:5
 sub-result : tie.Need-sub-result
 sub-result c = omega (arith, above-is (c .before .before .before), facts (c .before .before .before))
 
--- src/fills.rt:73:1
 returns : tie.Need-returns
 unfolding adjusted
 returns c = let s = c .before .before .before in omega (arith, above-is s, scale s .sum)

@@ -1,67 +1,52 @@
+-- `draw::fills::are_fields_in_range` meets its contract: the machine's tests are the ranges', of signed numbers too.
 use mathlib.Core.Path.{_≡_, ap, _∙_}
 use mathlib.Core.Bool.{Bool, _&&_}
 use Prim.Native.Nat.{_<_}
+use borrow.Author.Needs.{needs}
 use lib.IntN.{ℤ, pos, negsuc}
 use lib.Signed.{mag}
 use mir.Syntax.{w16}
 use mir.Val.{toZ, ofZ}
 use Rattle.ranges.specs.Within.{withinSigned}
 use Rattle.ranges.specs.Table.{drawProverOk, drawMeasureOk, coefficientOk, ctdwOk, pressureOk}
-use Rattle.draw.proofs.Fields.{passed-on}
 use Rattle.draw.specs.Fill.{fieldsOk, certifiedOk, scaleOk}
-use borrow.Author.Needs.{needs}
+use Rattle.draw.proofs.Fields.{passed-on}
 use Rattle.draw.proofs.fills.are_fields_in_range.Statement.{statement}
 use Rattle.draw.proofs.fills.are_fields_in_range.Tie as tie
-use Rattle.draw.proofs.fills.are_fields_in_range.Reads as reads
-use Rattle.draw.proofs.fills.are_fields_in_range.Lts as lts
-use Rattle.ranges.proofs.is_within.Reads as is-within-reads
-use Rattle.ranges.proofs.is_within_signed.Reads as is-within-signed-reads
 
--- src/fills.rt:35:23
 cast-is-within : tie.Need-cast-is-within
 cast-is-within c = search needs
 
--- src/fills.rt:35:5
 is-within-requires : tie.Need-is-within-requires
 is-within-requires c κs = search needs
 
--- src/fills.rt:36:12
 is-within-signed-requires : tie.Need-is-within-signed-requires
 is-within-signed-requires c κs = search needs
 
--- src/fills.rt:37:16
 is-within-signed-requires-2 : tie.Need-is-within-signed-requires-2
 is-within-signed-requires-2 c κs = search needs
 
--- src/fills.rt:38:20
 is-within-signed-requires-3 : tie.Need-is-within-signed-requires-3
 is-within-signed-requires-3 c κs = search needs
 
--- src/fills.rt:39:42
 cast-is-within-2 : tie.Need-cast-is-within-2
 cast-is-within-2 c = search needs
 
--- src/fills.rt:39:24
 is-within-requires-2 : tie.Need-is-within-requires-2
 is-within-requires-2 c κs = search needs
 
--- src/fills.rt:40:46
 cast-is-within-3 : tie.Need-cast-is-within-3
 cast-is-within-3 c = search needs
 
--- src/fills.rt:40:28
 is-within-requires-3 : tie.Need-is-within-requires-3
 is-within-requires-3 c κs = search needs
 
--- src/fills.rt:41:49
 cast-is-within-4 : tie.Need-cast-is-within-4
 cast-is-within-4 c = search needs
 
--- src/fills.rt:41:31
 is-within-requires-4 : tie.Need-is-within-requires-4
 is-within-requires-4 c κs = search needs
 
--- src/fills.rt:32:1
 -- the machine's signed test is the range's, since the field's number fits
 judged : (lo hi z : ℤ) {r : Bool} → mag z < 32768 → r ≡ withinSigned lo hi (toZ w16 (ofZ w16 z)) → r ≡ withinSigned lo hi z
 judged lo hi z fits is = is ∙ ap (withinSigned lo hi) (passed-on z fits)

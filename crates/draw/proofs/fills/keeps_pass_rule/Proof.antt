@@ -1,34 +1,25 @@
+-- `draw::fills::keeps_pass_rule` meets its contract.
 use mathlib.Core.Path.{_∙_}
-use Rattle.draw.proofs.Fields.{rule-first, rule-later}
 use borrow.Author.Needs.{needs}
+use Rattle.draw.proofs.Fields.{rule-first, rule-later}
 use Rattle.draw.proofs.fills.keeps_pass_rule.Statement.{statement}
 use Rattle.draw.proofs.fills.keeps_pass_rule.Tie as tie
-use Rattle.draw.proofs.fills.keeps_pass_rule.Reads as reads
-use Rattle.draw.proofs.fills.keeps_pass_rule.Lts as lts
-use Rattle.draw.proofs.fills.is_next.Reads as is-next-reads
-use Rattle.draw.proofs.fills.read.Reads as read-reads
 
--- src/fills.rt:66:9
 read-requires : tie.Need-read-requires
 read-requires c κs = search needs
 
--- src/fills.rt:68:9
 returns : tie.Need-returns
 returns c = rule-first (c .before .before .before .before .args .s .now) (c .before .if1 .taken) (c .before .before .read .ensures)
 
--- src/fills.rt:70:21
 sub-read : tie.Need-sub-read
 sub-read c = search needs
 
--- src/fills.rt:70:13
 read-requires-2 : tie.Need-read-requires-2
 read-requires-2 c κs = search needs
 
--- src/fills.rt:70:5
 is-next-requires : tie.Need-is-next-requires
 is-next-requires c κs = search needs
 
--- src/fills.rt:62:1
 returns-2 : tie.Need-returns-2
 returns-2 c = let a = c .before .before .before .before .before .args in c .is-next .ensures ∙ rule-later (a .s .now) (a .i) (c .before .before .if1 .left) (c .before .read2 .ensures) (c .before .before .before .read .ensures)
 

@@ -1,86 +1,64 @@
+-- `draw::fills::read` meets its contract: each field is what stands at its place.
 use mathlib.Core.Path.{_≡_, _∙_}
 use Prim.Native.Nat.{_<_}
+use borrow.Author.Needs.{needs}
 use lib.IntN.{ℤ}
 use lib.Signed.{mag}
 use mir.Syntax.{w16}
 use mir.Val.{toZ, ofZ}
-use Rattle.draw.proofs.Fields.{passed-on}
 use Rattle.draw.specs.Fill.{fillAt, fillFrom}
-use borrow.Author.Needs.{needs}
+use Rattle.draw.proofs.Fields.{passed-on}
 use Rattle.draw.proofs.fills.read.Statement.{statement}
 use Rattle.draw.proofs.fills.read.Tie as tie
-use Rattle.draw.proofs.fills.read.Reads as reads
-use Rattle.draw.proofs.fills.read.Lts as lts
-use Rattle.octets.proofs.byte_at.Reads as byte-at-reads
-use Rattle.octets.proofs.long_at.Reads as long-at-reads
-use Rattle.octets.proofs.signed_at.Reads as signed-at-reads
-use Rattle.octets.proofs.word_at.Reads as word-at-reads
 
--- src/fills.rt:18:14
 mul-at : tie.Need-mul-at
 mul-at c = search needs
 
--- src/fills.rt:20:20
 long-at-requires : tie.Need-long-at-requires
 long-at-requires c κs = search needs
 
--- src/fills.rt:21:37
 add-signed-at : tie.Need-add-signed-at
 add-signed-at c = search needs
 
--- src/fills.rt:21:16
 signed-at-requires : tie.Need-signed-at-requires
 signed-at-requires c κs = search needs
 
--- src/fills.rt:22:38
 add-signed-at-2 : tie.Need-add-signed-at-2
 add-signed-at-2 c = search needs
 
--- src/fills.rt:22:17
 signed-at-requires-2 : tie.Need-signed-at-requires-2
 signed-at-requires-2 c κs = search needs
 
--- src/fills.rt:23:39
 add-signed-at-3 : tie.Need-add-signed-at-3
 add-signed-at-3 c = search needs
 
--- src/fills.rt:23:18
 signed-at-requires-3 : tie.Need-signed-at-requires-3
 signed-at-requires-3 c κs = search needs
 
--- src/fills.rt:24:41
 add-word-at : tie.Need-add-word-at
 add-word-at c = search needs
 
--- src/fills.rt:24:22
 word-at-requires : tie.Need-word-at-requires
 word-at-requires c κs = search needs
 
--- src/fills.rt:25:34
 add-long-at : tie.Need-add-long-at
 add-long-at c = search needs
 
--- src/fills.rt:25:15
 long-at-requires-2 : tie.Need-long-at-requires-2
 long-at-requires-2 c κs = search needs
 
--- src/fills.rt:26:34
 add-byte-at : tie.Need-add-byte-at
 add-byte-at c = search needs
 
--- src/fills.rt:26:15
 byte-at-requires : tie.Need-byte-at-requires
 byte-at-requires c κs = search needs
 
--- src/fills.rt:27:38
 add-word-at-2 : tie.Need-add-word-at-2
 add-word-at-2 c = search needs
 
--- src/fills.rt:27:19
 word-at-requires-2 : tie.Need-word-at-requires-2
 word-at-requires-2 c κs = search needs
 
--- src/fills.rt:14:1
 -- a signed number that is passed on comes back
 same : {z r : ℤ} → mag r < 32768 → r ≡ z → toZ w16 (ofZ w16 r) ≡ z
 same {z} {r} fits is = passed-on r fits ∙ is

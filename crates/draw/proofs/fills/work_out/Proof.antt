@@ -1,79 +1,59 @@
+-- `draw::fills::work_out` meets its contract: each figure is the paper's, and drawn's product passes 64 bits.
 use mathlib.Core.Path.{_≡_, ap, _∙_}
 use Prim.Native.Nat.{ℕ, _*_, _≤_}
 use native.Mathlib.Omega.{arith}
+use borrow.Author.Needs.{needs}
 use Rattle.exact.specs.Quotient.{valueOrZero}
 use Rattle.factors.specs.Metal.{metalOk}
 use Rattle.factors.specs.declared.Metal.the-variants.{Certified}
 use Rattle.draw.specs.Drawn.{adjusted, measureCts, proverCts, figuresOf}
 use Rattle.draw.proofs.Fields.{fields}
 use Rattle.draw.proofs.Magnitudes.{cts-at, expanded-most, ccts-value, drawn-value}
-use borrow.Author.Needs.{needs}
 use Rattle.draw.proofs.fills.work_out.Statement.{statement}
 use Rattle.draw.proofs.fills.work_out.Tie as tie
-use Rattle.draw.proofs.fills.work_out.Reads as reads
-use Rattle.draw.proofs.fills.work_out.Lts as lts
-use Rattle.draw.proofs.fills.adjust.Reads as adjust-reads
-use Rattle.exact.proofs.rounded_ratio.Reads as rounded-ratio-reads
-use Rattle.exact.proofs.value_or_zero.Reads as value-or-zero-reads
-use Rattle.factors.proofs.cts.Reads as cts-reads
-use Rattle.factors.proofs.value_or_zero.Reads as value-or-zero-reads′
 
--- src/fills.rt:87:9
 adjust-requires : tie.Need-adjust-requires
 adjust-requires c κs = search needs
 
--- src/fills.rt:90:32
 cts-requires : tie.Need-cts-requires
 cts-requires c κs = search needs
 
--- src/fills.rt:90:9
 value-or-zero-requires : tie.Need-value-or-zero-requires
 value-or-zero-requires c κs = search needs
 
--- src/fills.rt:90:9
 cast-measure : tie.Need-cast-measure
 cast-measure c = search needs
 
--- src/fills.rt:91:41
 cts-requires-2 : tie.Need-cts-requires-2
 cts-requires-2 c κs = search needs
 
--- src/fills.rt:91:18
 value-or-zero-requires-2 : tie.Need-value-or-zero-requires-2
 value-or-zero-requires-2 c κs = search needs
 
--- src/fills.rt:91:18
 cast-prover : tie.Need-cast-prover
 cast-prover c = search needs
 
--- src/fills.rt:92:37
 rounded-ratio-requires : tie.Need-rounded-ratio-requires
 rounded-ratio-requires c κs = search needs
 
--- src/fills.rt:92:9
 value-or-zero-requires-3 : tie.Need-value-or-zero-requires-3
 value-or-zero-requires-3 c κs = search needs
 
--- src/fills.rt:93:31
 cast-expanded : tie.Need-cast-expanded
 cast-expanded c = search needs
 
--- src/fills.rt:93:20
 expanded-fits : (c : tie.Start) {x : ℕ} → x ≡ adjusted (c .args .fill) → x * c .args .fill .ctdw ≤ 102010200000000
 expanded-fits c is = let a = c .args in rw is (expanded-most (a .metal) (a .fill) (c .pre .0) (c .pre .1))
 
 mul-expanded : tie.Need-mul-expanded
 mul-expanded c = let s = c .before .before .before .before .before .before .before .before .before in omega (arith, s .adjust .ensures, expanded-fits (s .before) (s .adjust .ensures))
 
--- src/fills.rt:94:38
 rounded-ratio-requires-2 : tie.Need-rounded-ratio-requires-2
 rounded-ratio-requires-2 c κs = search needs
 
--- src/fills.rt:94:9
 value-or-zero-requires-4 : tie.Need-value-or-zero-requires-4
 value-or-zero-requires-4 c κs = search needs
 
--- src/fills.rt:83:1
 returns : tie.Need-returns
 unfolding figuresOf measureCts proverCts metalOk
 returns c =

@@ -1,11 +1,11 @@
 -- `draw::judging::is_length` meets its contract.
 use mathlib.Core.Bool.{_&&_}
 use Prim.Native.Nat.{_%_}
+use borrow.Author.Needs.{needs}
 use lib.Dec.{eqb}
 use lib.ListN.{length}
 use Rattle.ranges.specs.Table.{fillsOk}
 use Rattle.draw.specs.Passes.{lengthOk, fillsIn}
-use borrow.Author.Needs.{needs}
 use Rattle.draw.proofs.judging.is_length.Statement.{statement}
 use Rattle.draw.proofs.judging.is_length.Tie as tie
 

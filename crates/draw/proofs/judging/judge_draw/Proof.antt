@@ -1,8 +1,8 @@
 -- `draw::judging::judge_draw` meets its contract: 1, 3, the records first to last, and 1 for the count of passes.
 use mathlib.Core.Path.{_≡_, sym, ap, _∙_}
 use mathlib.Core.Bool.{true, _&&_}
-use Prim.Native.Nat.{ℕ}
 use native.Mathlib.Omega.{arith}
+use borrow.Author.Needs.{needs}
 use Rattle.refusals.specs.Told.{Fault, demand}
 use Rattle.refusals.proofs.Laws.{demand-holds, demand-fails, orElse-next, orElse-first}
 use Rattle.ranges.specs.Within.{within}
@@ -12,7 +12,6 @@ use Rattle.factors.specs.Answers.{pipeOk}
 use Rattle.draw.specs.Passes.{fillsIn, lengthOk, passCount}
 use Rattle.draw.specs.Answers.{faultOf, drawFault}
 use Rattle.draw.proofs.Sound.{length-some, length-few}
-use borrow.Author.Needs.{needs}
 use Rattle.draw.proofs.judging.judge_draw.Statement.{statement}
 use Rattle.draw.proofs.judging.judge_draw.Tie as tie
 

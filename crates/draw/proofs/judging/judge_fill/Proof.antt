@@ -1,8 +1,8 @@
 -- `draw::judging::judge_fill` meets its contract: 5 and 2 before 6.
 use mathlib.Core.Path.{sym, ap, _∙_}
+use borrow.Author.Needs.{needs}
 use Rattle.refusals.proofs.Laws.{demandAt-holds, demandAt-fails, orElse-next, orElse-first}
 use Rattle.draw.specs.Answers.{faultOf, fillFault}
-use borrow.Author.Needs.{needs}
 use Rattle.draw.proofs.judging.judge_fill.Statement.{statement}
 use Rattle.draw.proofs.judging.judge_fill.Tie as tie
 

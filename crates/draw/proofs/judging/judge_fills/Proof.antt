@@ -1,9 +1,9 @@
 -- `draw::judging::judge_fills` meets its contract. The loop's invariant: the first fault of all is the first from record i on.
-use Rattle.octets.proofs.FirstToLast.{faults, start, next, done, scan-hit}
-use borrow.Author.Needs.{needs}
 use mathlib.Core.Path.{_≡_, sym, ap, _∙_}
-use Prim.Native.Nat.{_-_, _+_}
+use Prim.Native.Nat.{_-_}
 use native.Mathlib.Omega.{arith}
+use borrow.Author.Needs.{needs}
+use Rattle.octets.proofs.FirstToLast.{faults, start, next, done, scan-hit}
 use Rattle.octets.specs.FirstToLast.{scan}
 use Rattle.draw.specs.Answers.{faultOf, fillFault}
 use Rattle.draw.proofs.judging.judge_fills.Statement.{statement}

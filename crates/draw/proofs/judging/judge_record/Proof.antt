@@ -1,9 +1,9 @@
 -- `draw::judging::judge_record` meets its contract: 5 before 2.
 use mathlib.Core.Path.{_≡_, sym, ap, _∙_}
+use borrow.Author.Needs.{needs}
 use Rattle.refusals.proofs.Laws.{demandAt-holds, demandAt-fails, orElse-next, orElse-first}
 use Rattle.draw.specs.Fill.{fillAt, fieldsOk}
 use Rattle.draw.specs.Answers.{recordFault}
-use borrow.Author.Needs.{needs}
 use Rattle.draw.proofs.judging.judge_record.Statement.{statement}
 use Rattle.draw.proofs.judging.judge_record.Tie as tie
 

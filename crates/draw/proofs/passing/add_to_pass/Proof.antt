@@ -1,12 +1,12 @@
 -- `draw::passing::add_to_pass` meets its contract.
 use mathlib.Core.Path.{ap, _∙_}
 use native.Mathlib.Omega.{arith}
+use borrow.Author.Needs.{needs}
 use Rattle.draw.specs.Fill.{fieldsOk}
 use Rattle.draw.specs.Drawn.{figuresOf}
 use Rattle.draw.specs.declared.FillFigures.{FillFigures}
 use Rattle.draw.proofs.Magnitudes.{drawn-most}
 use Rattle.draw.proofs.Volumes.{adds, adds-nothing}
-use borrow.Author.Needs.{needs}
 use Rattle.draw.proofs.passing.add_to_pass.Statement.{statement}
 use Rattle.draw.proofs.passing.add_to_pass.Tie as tie
 

@@ -1,12 +1,12 @@
 -- `draw::passing::add_up` meets its contract. The loop's invariant: the sum is the definition's over the fills below i.
-use Prim.Native.Nat.{_/_, _-_, _+_, _*_, _≤_}
+use mathlib.Core.Path.{_≡_, refl, ap, _∙_}
+use Prim.Native.Nat.{_/_, _-_, _*_, _≤_}
+use native.Mathlib.Omega.{arith}
+use borrow.Author.Needs.{needs}
 use lib.ListN.{length}
 use Rattle.draw.specs.Passes.{fillsIn, passSum, drawnFor, sumTo}
 use Rattle.draw.proofs.Sound.{sound}
 use Rattle.draw.proofs.Volumes.{sum-next}
-use borrow.Author.Needs.{needs}
-use mathlib.Core.Path.{_≡_, refl, sym, ap, _∙_}
-use native.Mathlib.Omega.{arith}
 use Rattle.draw.proofs.passing.add_up.Statement.{statement}
 use Rattle.draw.proofs.passing.add_up.Tie as tie
 

@@ -1,10 +1,10 @@
 -- `draw::passing::collect` meets its contract. The loop's invariant: the array holds the volumes of the passes 1 to i, and zeros after them.
+use mathlib.Core.Path.{_≡_, refl, ap, _∙_}
 use Prim.Native.Nat.{ℕ, _-_, _≤_}
-use Rattle.draw.proofs.Volumes.{volumes-next}
-use mathlib.Core.Path.{_≡_, refl, sym, ap, _∙_}
 use native.Mathlib.Omega.{arith}
 use borrow.Author.Needs.{needs}
 use Rattle.draw.specs.Passes.{volumesTo, zerosAfter}
+use Rattle.draw.proofs.Volumes.{volumes-next}
 use Rattle.draw.proofs.passing.collect.Statement.{statement}
 use Rattle.draw.proofs.passing.collect.Tie as tie
 

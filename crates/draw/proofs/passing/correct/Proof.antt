@@ -1,13 +1,13 @@
 -- `draw::passing::correct` meets its contract: both factors are the paper's, and their product is not rounded.
 use mathlib.Core.Path.{_≡_, refl, ap, _∙_}
 use native.Mathlib.Omega.{arith}
+use borrow.Author.Needs.{needs}
 use Rattle.ranges.specs.Table.{compressibilityOk}
 use Rattle.exact.specs.Quotient.{valueOrZero}
 use Rattle.factors.specs.declared.Places.the-variants.{Six}
 use Rattle.factors.proofs.Values.{cps-value, cpl-value}
 use Rattle.draw.specs.Passes.{pipeFactor, waterFactor}
 use Rattle.draw.proofs.Volumes.{product-fits, corrected-value}
-use borrow.Author.Needs.{needs}
 use Rattle.draw.proofs.passing.correct.Statement.{statement}
 use Rattle.draw.proofs.passing.correct.Tie as tie
 

@@ -1,18 +1,18 @@
 -- `draw::passing::find_pressure` meets its contract. The loop's invariant: the pass's first fill is the first from record i on.
-use Prim.Native.Nat.{_/_, _<_, _-_, _+_}
+use mathlib.Core.Path.{_≡_, refl, sym, ap, _∙_}
+use Prim.Native.Nat.{_/_, _<_, _-_}
+use native.Mathlib.Omega.{arith}
+use borrow.Author.Needs.{needs}
 use lib.ListN.{length}
+use Rattle.ranges.specs.Table.{pressureOk}
 use Rattle.octets.specs.FirstToLast.{placeIf, firstPlace}
 use Rattle.octets.proofs.FirstToLast.{places, start, done, place-hit, place-next}
-use Rattle.ranges.specs.Table.{pressureOk}
 use Rattle.draw.specs.Fill.{fillAt}
 use Rattle.draw.specs.Passes.{fillsIn, passPressure, pressureAt, isOf}
 use Rattle.draw.specs.declared.FillRecord.{FillRecord}
 use Rattle.draw.proofs.Fields.{fields}
 use Rattle.draw.proofs.Sound.{sound}
 use Rattle.draw.proofs.Volumes.{of-pass, not-of-pass}
-use borrow.Author.Needs.{needs}
-use mathlib.Core.Path.{_≡_, refl, sym, ap, _∙_}
-use native.Mathlib.Omega.{arith}
 use Rattle.draw.proofs.passing.find_pressure.Statement.{statement}
 use Rattle.draw.proofs.passing.find_pressure.Tie as tie
 

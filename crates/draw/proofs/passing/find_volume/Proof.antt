@@ -1,8 +1,8 @@
 -- `draw::passing::find_volume` meets its contract.
 use mathlib.Core.Path.{_∙_}
+use borrow.Author.Needs.{needs}
 use Rattle.draw.specs.Passes.{correctedVolume, passVolume}
 use Rattle.draw.proofs.Sound.{sound}
-use borrow.Author.Needs.{needs}
 use Rattle.draw.proofs.passing.find_volume.Statement.{statement}
 use Rattle.draw.proofs.passing.find_volume.Tie as tie
 
