@@ -1,0 +1,67 @@
+-- `draw::draw` meets its contract: refused as the passes are, and otherwise decided by their volumes.
+use mathlib.Core.Path.{_≡_, sym}
+use native.Mathlib.Omega.{arith}
+use borrow.Author.Needs.{needs}
+use lib.ListN.{length, take}
+use lib.Seq.{length-take-le}
+use Rattle.draw.proofs.Outcome.{Found, passes-found, draw-decided, draw-refused}
+use Rattle.draw.proofs.draw.Statement.{statement}
+use Rattle.draw.proofs.draw.Tie as tie
+
+found : (c : tie.After-known-told) → Found (c .before .before .before .before .before .args .prover) (c .before .before .before .before .before .args .records .now) (c .before .before .before .passes .result .volumes) (c .before .answer .given .0 .0)
+found c =
+    let p = c .before .before .before in
+    let a = p .before .before .args in
+    passes-found (a .prover) (a .records .now) (p .passes .ensures .0) (p .passes .ensures .1) (c .before .answer .given .1)
+
+used-length : (c : tie.After-known-told) → length (take (c .before .answer .given .0 .0) (c .before .before .before .passes .result .volumes)) ≡ c .before .answer .given .0 .0
+used-length c = let f = found c in length-take-le (c .before .answer .given .0 .0) (c .before .before .before .passes .result .volumes) (omega (arith, f .few, f .places))
+
+passes-requires : tie.Need-passes-requires
+passes-requires c κs = search needs
+
+enum-known-answer : tie.Need-enum-known-answer
+enum-known-answer c = search needs
+
+cast-end : tie.Need-cast-end
+cast-end c = search needs
+
+array-share-prefix-volumes : tie.Need-array-share-prefix-volumes
+array-share-prefix-volumes c = let f = found (c .before) in omega (arith, f .few, f .places)
+
+slice-aggregate-decide : tie.Need-slice-aggregate-decide
+slice-aggregate-decide c = sym (used-length (c .before .before))
+
+decide-requires : tie.Need-decide-requires
+decide-requires c κs = let k = c .before .before in omega (arith, used-length k, found k .few)
+
+enum-known-answer-2 : tie.Need-enum-known-answer-2
+enum-known-answer-2 c = search needs
+
+returns : tie.Need-returns
+returns c =
+    let k = c .before .before .before in
+    let a = k .before .before .before .before .before .args in
+    let f = found k in
+    draw-decided (a .prover) (a .records .now) (f .nothing) (f .used) (c .decide .ensures)
+
+returns-2 : tie.Need-returns-2
+returns-2 c =
+    let v = c .before in
+    let p = v .before .before in
+    let a = p .before .before .args in
+    draw-refused (a .prover) (a .records .now) (p .passes .ensures .0) (v .answer2 .given .1)
+
+pub draw-spec : {M : Type 1} → statement M
+draw-spec =
+    tie.close
+    (tie.spec
+    passes-requires
+    enum-known-answer
+    cast-end
+    array-share-prefix-volumes
+    slice-aggregate-decide
+    decide-requires
+    enum-known-answer-2
+    returns
+    returns-2)

@@ -1,0 +1,47 @@
+-- `draw::fills::adjust` meets its contract: counted from -100.00 cubic inches the scale reading is a natural number.
+use mathlib.Core.Path.{_≡_, ap}
+use native.Mathlib.Omega.{arith}
+use borrow.Author.Needs.{needs}
+use lib.IntN.{pos, natAbs, _+ℤ_}
+use mir.Syntax.{w16}
+use mir.Val.{toZ, ofZ}
+use Rattle.draw.specs.Fill.{scaleOk}
+use Rattle.draw.specs.Drawn.{adjusted}
+use Rattle.draw.proofs.Fields.{Fields, fields, Scale, scaled, within-passed-on, sum-fits, cast-is, cast-fits}
+use Rattle.draw.proofs.fills.adjust.Statement.{statement}
+use Rattle.draw.proofs.fills.adjust.Tie as tie
+
+facts : (c : tie.Start) → Fields (c .args .fill)
+facts c = fields (c .args .fill) (c .pre)
+
+scale : (c : tie.Start) → Scale (c .args .fill .certified) (c .args .fill .scale)
+scale c = scaled (c .args .fill .certified) (c .args .fill .scale) (facts c .certified-least) (facts c .scale)
+
+back : (c : tie.Start) → toZ w16 (ofZ w16 (c .args .fill .scale)) ≡ c .args .fill .scale
+unfolding scaleOk
+back c = within-passed-on 9999 10000 (c .args .fill .scale) (omega arith) (omega arith) (facts c .scale)
+
+above-is : (c : tie.Start) → natAbs (toZ w16 (ofZ w16 (toZ w16 (ofZ w16 (c .args .fill .scale)) +ℤ pos 10000))) ≡ scale c .above
+above-is c = ap natAbs (cast-is (back c) (scale c))
+
+add-above : tie.Need-add-above
+add-above c = sum-fits (back (c .before .before)) (scale (c .before .before))
+
+cast-above : tie.Need-cast-above
+cast-above c = cast-fits (back (c .before .before)) (scale (c .before .before))
+
+cast-result : tie.Need-cast-result
+cast-result c = search needs
+
+add-result : tie.Need-add-result
+add-result c = omega (arith, above-is (c .before .before .before), facts (c .before .before .before), scale (c .before .before .before))
+
+sub-result : tie.Need-sub-result
+sub-result c = omega (arith, above-is (c .before .before .before), facts (c .before .before .before))
+
+returns : tie.Need-returns
+unfolding adjusted
+returns c = let s = c .before .before .before in omega (arith, above-is s, scale s .sum)
+
+pub adjust-spec : {M : Type 1} → statement M
+adjust-spec = tie.close (tie.spec add-above cast-above cast-result add-result sub-result returns)

@@ -1,0 +1,70 @@
+-- `draw::passing::collect` meets its contract. The loop's invariant: the array holds the volumes of the passes 1 to i, and zeros after them.
+use mathlib.Core.Path.{_≡_, refl, ap, _∙_}
+use Prim.Native.Nat.{ℕ, _-_, _≤_}
+use native.Mathlib.Omega.{arith}
+use borrow.Author.Needs.{needs}
+use Rattle.draw.specs.Passes.{volumesTo, zerosAfter}
+use Rattle.draw.proofs.Volumes.{volumes-next}
+use Rattle.draw.proofs.passing.collect.Statement.{statement}
+use Rattle.draw.proofs.passing.collect.Tie as tie
+
+abbrev Inv-loop : tie.InvT-loop
+Inv-loop prover s count volumes₀ last i₀ volumes i = (i ≤ last) × (volumes ≡ zerosAfter 20 (volumesTo prover s i))
+
+abbrev μ-loop : tie.MeasureT-loop
+μ-loop prover s count volumes₀ last i₀ volumes i = last - i
+
+loop-holds : tie.Need-loop-holds Inv-loop μ-loop
+unfolding volumesTo zerosAfter
+loop-holds c = (omega arith, refl)
+
+add-find-volume : tie.Need-add-find-volume Inv-loop μ-loop
+add-find-volume c = search needs
+
+cast-find-volume : tie.Need-cast-find-volume Inv-loop μ-loop
+cast-find-volume c = omega (arith, c .before .before .before .pre .1)
+
+find-volume-requires : tie.Need-find-volume-requires Inv-loop μ-loop
+find-volume-requires c κs = c .before .before .before .pre .0
+
+mul-volumes : tie.Need-mul-volumes Inv-loop μ-loop
+mul-volumes c = omega (arith, c .before .before .before .before .pre .1)
+
+array-write-volumes : tie.Need-array-write-volumes Inv-loop μ-loop
+array-write-volumes c = omega (arith, c .before .before .before .before .pre .1)
+
+add-i : tie.Need-add-i Inv-loop μ-loop
+add-i c = search needs
+
+loop-less : tie.Need-loop-less Inv-loop μ-loop
+loop-less c = omega arith
+
+loop-again : tie.Need-loop-again Inv-loop μ-loop
+loop-again c =
+    let l = c .before .before in
+    let s = l .before .before in
+    (omega arith, volumes-next (s .args .prover) (s .args .s .now) 20 (l .loop .i) (omega (arith, s .pre .1)) (l .loop .inv .1) (c .find-volume .ensures))
+
+returns : tie.Need-returns Inv-loop μ-loop
+returns c =
+    let l = c .before in
+    let a = l .before .before .args in
+    let all : l .loop .i ≡ a .count = omega (arith, l .loop .inv) in
+    l .loop .inv .1 ∙ ap (λ (k : ℕ). zerosAfter 20 (volumesTo (a .prover) (a .s .now) k)) all
+
+pub collect-spec : {M : Type 1} → statement M
+collect-spec =
+    tie.close
+    (tie.spec
+    Inv-loop
+    μ-loop
+    loop-holds
+    add-find-volume
+    cast-find-volume
+    find-volume-requires
+    mul-volumes
+    array-write-volumes
+    add-i
+    loop-less
+    loop-again
+    returns)

@@ -1,0 +1,74 @@
+-- `draw::passing::find_pressure` meets its contract. The loop's invariant: the pass's first fill is the first from record i on.
+use mathlib.Core.Path.{_≡_, refl, sym, ap, _∙_}
+use Prim.Native.Nat.{_/_, _<_, _-_}
+use native.Mathlib.Omega.{arith}
+use borrow.Author.Needs.{needs}
+use lib.ListN.{length}
+use Rattle.ranges.specs.Table.{pressureOk}
+use Rattle.octets.specs.FirstToLast.{placeIf, firstPlace}
+use Rattle.octets.proofs.FirstToLast.{places, start, done, place-hit, place-next}
+use Rattle.draw.specs.Fill.{fillAt}
+use Rattle.draw.specs.Passes.{fillsIn, passPressure, pressureAt, isOf}
+use Rattle.draw.specs.declared.FillRecord.{FillRecord}
+use Rattle.draw.proofs.Fields.{fields}
+use Rattle.draw.proofs.Sound.{sound}
+use Rattle.draw.proofs.Volumes.{of-pass, not-of-pass}
+use Rattle.draw.proofs.passing.find_pressure.Statement.{statement}
+use Rattle.draw.proofs.passing.find_pressure.Tie as tie
+
+abbrev Inv-loop : tie.InvT-loop
+Inv-loop s pass fills i₀ i = firstPlace (isOf s pass) fills 0 ≡ firstPlace (isOf s pass) (fills - i) i
+
+abbrev μ-loop : tie.MeasureT-loop
+μ-loop s pass fills i₀ i = fills - i
+
+loop-holds : tie.Need-loop-holds Inv-loop μ-loop
+loop-holds c = start places (placeIf (isOf (c .before .args .s .now) (c .before .args .pass))) (length (c .before .args .s .now) / 32)
+
+read-requires : tie.Need-read-requires Inv-loop μ-loop
+unfolding fillsIn
+read-requires c κs = let s = c .before .before .before in omega (arith, sound (s .args .prover) (s .args .s .now) (s .pre) .few-fills)
+
+returns : tie.Need-returns Inv-loop μ-loop
+unfolding passPressure fillsIn
+returns c =
+    let r = c .before .before in
+    let l = r .before .before in
+    let s = l .before .before in
+    let a = s .args in
+    let h : l .loop .i < length (a .s .now) / 32 = omega arith in
+    (ap (λ (f : FillRecord). f .pressure) (r .read .ensures) ∙ sym (ap (pressureAt (a .s .now)) (place-hit (isOf (a .s .now) (a .pass)) (length (a .s .now) / 32) (l .loop .i) h (of-pass (a .s .now) (l .loop .i) (r .read .ensures) (c .if1 .taken)) (l .loop .inv))), ap (λ (f : FillRecord). pressureOk (f .pressure)) (r .read .ensures) ∙ fields (fillAt (a .s .now) (l .loop .i)) (sound (a .prover) (a .s .now) (s .pre) .fill (l .loop .i) h) .pressure)
+
+add-i : tie.Need-add-i Inv-loop μ-loop
+add-i c = search needs
+
+loop-less : tie.Need-loop-less Inv-loop μ-loop
+loop-less c = omega arith
+
+loop-again : tie.Need-loop-again Inv-loop μ-loop
+loop-again c =
+    let r = c .before .before in
+    let l = r .before .before in
+    let a = l .before .before .args in
+    place-next (isOf (a .s .now) (a .pass)) (length (a .s .now) / 32) (l .loop .i) (omega arith) (not-of-pass (a .s .now) (l .loop .i) (r .read .ensures) (a .pass) (c .if1 .left)) (l .loop .inv)
+
+returns-2 : tie.Need-returns-2 Inv-loop μ-loop
+unfolding passPressure fillsIn pressureOk
+returns-2 c =
+    let l = c .before in
+    let a = l .before .before .args in
+    (sym (ap (pressureAt (a .s .now)) (done places (placeIf (isOf (a .s .now) (a .pass))) (length (a .s .now) / 32) (l .loop .i) (omega arith) (l .loop .inv))), refl)
+
+pub find-pressure-spec : {M : Type 1} → statement M
+find-pressure-spec =
+    tie.close
+    (tie.spec
+    Inv-loop
+    μ-loop
+    loop-holds
+    read-requires
+    returns
+    add-i
+    loop-less
+    loop-again
+    returns-2)

@@ -1,0 +1,15 @@
+-- 01, 'Water draw': 'The first three decide; the base volume is their mean, rounded. The answer is that, the same in barrels
+-- (÷ 9702, 4 places) and the first pass used.'
+use mathlib.Core.List.{List}
+use Prim.Native.Nat.{ℕ, _+_}
+use Rattle.exact.specs.Rounding.{rounded, _over_}
+use Rattle.group.specs.Mean.{meanOf}
+use Rattle.draw.specs.declared.BaseVolume.{BaseVolume}
+
+-- a volume in barrels, at 4 places: 9702.00 cubic inches, in 0.01, are one
+unfoldable pub barrelsOf : ℕ → ℕ
+barrelsOf base = rounded 4 (base over 970200)
+
+-- the answer from the volumes that decide, of which the first is at a place from 0; passes count from 1
+unfoldable pub baseFrom : List ℕ → ℕ → BaseVolume
+baseFrom three at = record { base = meanOf three; barrels = barrelsOf (meanOf three); first = at + 1 }

@@ -1,0 +1,169 @@
+// The water draw of a pipe prover (01, 'Water draw'): fills of a certified measure, passes of fills, and
+// the base volume from the first three passes that repeat. Volumes are in 0.01 cubic inch, factors have
+// 6 places.
+use factors::Metal;
+use factors::Prover;
+use group::Group;
+use refusals::Refusal;
+ghost use mathlib.Core.Path.{_≡_};
+ghost use Prim.Native.Nat.{_≤_};
+ghost use lib.ListN.{length};
+ghost use Rattle.group.specs.Mean.{meanOf};
+ghost use Rattle.group.specs.Repeatability.{firstGroup};
+ghost use Rattle.draw.specs.Base.{barrelsOf, baseFrom};
+ghost use Rattle.draw.specs.Answers.{toldFill, toldPasses, toldDraw, fillOf, passesOf, heldFor, decidedBy, drawOf};
+
+mod fills;
+mod judging;
+mod passing;
+
+// A fill record as it stands in its bytes: volumes in 0.01 cubic inch, temperatures in 0.1 °F, the
+// measure's coefficient in 10^-7 per °F, CTDW at 6 places, the pressure in psi gage.
+struct FillRecord {
+    certified: u32,
+    scale: i16,
+    prover: i16,
+    measure: i16,
+    coefficient: u16,
+    ctdw: u32,
+    pass: u8,
+    pressure: u16,
+}
+
+// What judging finds.
+enum Verdict {
+    Fine,
+    Faulty(Refusal),
+}
+
+// One fill's figures: the adjusted measure, CTS of the measure and of the prover, CCTS, and the volume
+// drawn.
+pub struct FillFigures {
+    pub adjusted: u64,
+    pub measure: u64,
+    pub prover: u64,
+    pub ccts: u64,
+    pub drawn: u64,
+}
+
+pub enum FillAnswer {
+    Figures(FillFigures),
+    Refused(Refusal),
+}
+
+// How many passes there are.
+pub enum Counted {
+    Passes(u8),
+    Refused(Refusal),
+}
+
+// Each pass's volume, in the passes' order, and zeros after the last; zeros alone beside a refusal.
+pub struct PassVolumes {
+    pub answer: Counted,
+    pub volumes: [u64; 20],
+}
+
+// The base volume, the same in 0.0001 barrel, and the first pass used, from 1.
+pub struct BaseVolume {
+    pub base: u64,
+    pub barrels: u64,
+    pub first: u8,
+}
+
+pub enum WaterDraw {
+    Drawn(BaseVolume),
+    Refused(Refusal),
+}
+
+// One fill's figures. A record alone has no record before it, so the pass rule is not judged.
+pub fn fill(metal: Metal, bytes: &[u8]) -> FillAnswer
+    ensures { λ r. ⌜ toldFill r ≡ fillOf metal (now (bytes .entry)) ⌝ }
+{
+    if bytes.len() == 32 {
+        if factors::is_metal(metal) {
+            let verdict = judging::judge_record(bytes, 0);
+            return match verdict {
+                Verdict::Fine => {
+                    FillAnswer::Figures(fills::work_out(metal, fills::read(bytes, 0)))
+                }
+                Verdict::Faulty(refusal) => FillAnswer::Refused(refusal),
+            };
+        }
+        return FillAnswer::Refused(Refusal::ProverSetting);
+    }
+    FillAnswer::Refused(Refusal::Records)
+}
+
+// The volumes of all passes of a draw, of which three need not qualify.
+pub fn passes(prover: Prover, records: &[u8]) -> PassVolumes
+    ensures { λ r. ⌜ (toldPasses (r .answer) ≡ passesOf prover (now (records .entry))) × (r .volumes ≡ heldFor prover (now (records .entry)) (passesOf prover (now (records .entry)))) ⌝ }
+{
+    let verdict = judging::judge_draw(prover, records);
+    match verdict {
+        Verdict::Fine => {
+            let count = judging::count_passes(records);
+            let volumes = passing::collect(prover, records, count);
+            PassVolumes {
+                answer: Counted::Passes(count),
+                volumes,
+            }
+        }
+        Verdict::Faulty(refusal) => {
+            PassVolumes {
+                answer: Counted::Refused(refusal),
+                volumes: [0u64; 20],
+            }
+        }
+    }
+}
+
+// 9702.00 cubic inches are one barrel.
+fn in_barrels(base: u64) -> u64
+    ensures { λ r. ⌜ r ≡ barrelsOf base ⌝ }
+{
+    exact::value_or_zero(exact::rounded_ratio(base, 10000, 970200))
+}
+
+// The base volume from the passes that decide, of which the first is at a place from 0.
+fn base_from(three: &[u64], at: usize) -> BaseVolume
+    requires { ⌜ at ≤ 20 ⌝ }
+    ensures { λ r. ⌜ r ≡ baseFrom (now (three .entry)) at ⌝ }
+{
+    let base = group::mean(three);
+    BaseVolume {
+        base,
+        barrels: in_barrels(base),
+        first: (at + 1) as u8,
+    }
+}
+
+// The first three consecutive volumes that qualify decide.
+fn decide(volumes: &[u64]) -> WaterDraw
+    requires { ⌜ length (now volumes) ≤ 20 ⌝ }
+    ensures { λ r. ⌜ toldDraw r ≡ decidedBy (now (volumes .entry)) (firstGroup 2 3 (now (volumes .entry))) ⌝ }
+{
+    let found = group::first_group(volumes, 3, 2);
+    match found {
+        Group::At(at) => {
+            let three = &volumes[at..at + 3];
+            WaterDraw::Drawn(base_from(three, at))
+        }
+        Group::Nothing => WaterDraw::Refused(Refusal::NoGroup),
+    }
+}
+
+// The water draw. The prover's base volume is not judged: the draw is what gives one.
+pub fn draw(prover: Prover, records: &[u8]) -> WaterDraw
+    ensures { λ r. ⌜ toldDraw r ≡ drawOf prover (now (records .entry)) ⌝ }
+{
+    let found = passes(prover, records);
+    let answer = found.answer;
+    match answer {
+        Counted::Passes(count) => {
+            let volumes = found.volumes;
+            let end = count as usize;
+            decide(&volumes[..end])
+        }
+        Counted::Refused(refusal) => WaterDraw::Refused(refusal),
+    }
+}

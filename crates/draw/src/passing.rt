@@ -1,0 +1,98 @@
+// The volume of each pass (01, 'Water draw'), of a draw in which judging found nothing.
+use crate::fills;
+use factors::Metal;
+use factors::Pipe;
+use factors::Places;
+use factors::Prover;
+ghost use mathlib.Core.Path.{_≡_};
+ghost use mathlib.Core.Bool.{true};
+ghost use Prim.Native.Nat.{_<_, _≤_};
+ghost use Rattle.refusals.specs.Told.{fine};
+ghost use Rattle.ranges.specs.Table.{pressureOk};
+ghost use Rattle.factors.specs.Answers.{pipeOk};
+ghost use Rattle.factors.specs.Metal.{metalOk};
+ghost use Rattle.draw.specs.Fill.{fillAt, fieldsOk};
+ghost use Rattle.draw.specs.Passes.{drawnFor, passSum, passPressure, correctedVolume, passVolume, volumesTo, zerosAfter};
+ghost use Rattle.draw.specs.Answers.{drawFault};
+
+// What the fill adds to a pass: the volume drawn, if it is a fill of that pass.
+fn add_to_pass(metal: Metal, s: &[u8], pass: u8, i: usize) -> u64
+    requires { ⌜ (i < 60) × (metalOk metal ≡ true) × (fieldsOk (fillAt (now s) i) ≡ true) ⌝ }
+    ensures { λ r. ⌜ (r ≡ drawnFor metal (now (s .entry)) pass i) × (r ≤ 500000000) ⌝ }
+{
+    let fill = fills::read(s, i);
+    if fill.pass == pass {
+        return fills::work_out(metal, fill).drawn;
+    }
+    0
+}
+
+// The sum of a pass's fills.
+fn add_up(prover: Prover, s: &[u8], pass: u8) -> u64
+    requires { ⌜ drawFault prover (now s) ≡ fine ⌝ }
+    ensures { λ r. ⌜ (r ≡ passSum (prover .metal) (now (s .entry)) pass) × (r ≤ 30000000000) ⌝ }
+{
+    let metal = prover.metal;
+    let fills = s.len() / 32;
+    let mut sum = 0;
+    let mut i = 0;
+    while i < fills {
+        sum += add_to_pass(metal, s, pass, i);
+        i += 1;
+    }
+    sum
+}
+
+// The pressure of a pass: that of its first fill, since all carry one.
+fn find_pressure(prover: Prover, s: &[u8], pass: u8) -> u16
+    requires { ⌜ drawFault prover (now s) ≡ fine ⌝ }
+    ensures { λ r. ⌜ (r ≡ passPressure (now (s .entry)) pass) × (pressureOk r ≡ true) ⌝ }
+{
+    let fills = s.len() / 32;
+    let mut i = 0;
+    while i < fills {
+        let fill = fills::read(s, i);
+        if fill.pass == pass {
+            return fill.pressure;
+        }
+        i += 1;
+    }
+    0
+}
+
+// The sum divided by the unrounded product of the two rounded factors; F of water is 320.
+fn correct(pipe: Pipe, pressure: u16, sum: u64) -> u64
+    requires { ⌜ (pipeOk pipe ≡ true) × (pressureOk pressure ≡ true) × (sum ≤ 30000000000) ⌝ }
+    ensures { λ r. ⌜ r ≡ correctedVolume pipe pressure sum ⌝ }
+{
+    let cps = factors::value_or_zero(factors::cps(pressure, pipe, Places::Six)) as u64;
+    let cpl = factors::value_or_zero(factors::cpl(pressure, 320, Places::Six)) as u64;
+    exact::value_or_zero(exact::rounded_ratio(sum, 1000000000000, cps * cpl))
+}
+
+fn find_volume(prover: Prover, s: &[u8], pass: u8) -> u64
+    requires { ⌜ drawFault prover (now s) ≡ fine ⌝ }
+    ensures { λ r. ⌜ r ≡ passVolume prover (now (s .entry)) pass ⌝ }
+{
+    let pipe = prover.pipe;
+    correct(
+        pipe,
+        find_pressure(prover, s, pass),
+        add_up(prover, s, pass),
+    )
+}
+
+// The volumes of the passes 1 to count, and zeros after them.
+pub(crate) fn collect(prover: Prover, s: &[u8], count: u8) -> [u64; 20]
+    requires { ⌜ (drawFault prover (now s) ≡ fine) × (count ≤ 20) ⌝ }
+    ensures { λ r. ⌜ r ≡ zerosAfter 20 (volumesTo prover (now (s .entry)) count) ⌝ }
+{
+    let mut volumes = [0u64; 20];
+    let last = count as usize;
+    let mut i = 0;
+    while i < last {
+        volumes[i] = find_volume(prover, s, (i + 1) as u8);
+        i += 1;
+    }
+    volumes
+}
