@@ -1,0 +1,264 @@
+"""The grammar of the line program: a line in, a line out. README.md holds its readings."""
+
+import re
+from functools import partial
+
+import book
+import draw
+import live
+import proving
+import ranges
+import report
+import settings
+import ticket
+from factors import cpl, cps, cts
+from refusals import RECORD_FIELD, Refused
+
+LONGEST = 524_288
+
+WHOLE = re.compile(rb"0|-?[1-9][0-9]*")
+BYTES = re.compile(rb"(?:[0-9a-f]{2})+")
+SINGLE = re.compile(rb"[0-9a-f]{8}")
+MOST_DIGITS = 11  # a sign and ten digits hold every operand type
+
+NO_BYTES = b"-"
+BAD_LINE = b"bad line"
+
+
+class BadLine(Exception):
+    """An operand is malformed or outside its own type."""
+
+
+def whole(lowest, highest, word):
+    if len(word) > MOST_DIGITS or not WHOLE.fullmatch(word):
+        raise BadLine
+    value = int(word)
+    if not lowest <= value <= highest:
+        raise BadLine
+    return value
+
+
+u8 = partial(whole, 0, 2**8 - 1)
+u16 = partial(whole, 0, 2**16 - 1)
+u32 = partial(whole, 0, 2**32 - 1)
+i16 = partial(whole, -(2**15), 2**15 - 1)
+
+
+def places(word):
+    if word not in (b"4", b"6"):
+        raise BadLine
+    return int(word)
+
+
+def octets(word):
+    if word == NO_BYTES:
+        return b""
+    if not BYTES.fullmatch(word):
+        raise BadLine
+    return bytes.fromhex(word.decode("ascii"))
+
+
+def single(word):
+    if not SINGLE.fullmatch(word):
+        raise BadLine
+    return int(word, 16)
+
+
+SETTINGS = (u8, u16, u32, u32, u32, u32)
+
+
+def printed(value):
+    if isinstance(value, bytes):
+        return value.hex().encode("ascii") or NO_BYTES
+    return b"%d" % value
+
+
+def said(word, *values):
+    return b" ".join([word, *map(printed, values)])
+
+
+def ok(*values):
+    return said(b"ok", *values)
+
+
+def refused(refusal, *left):
+    return said(b"refused", refusal.number, refusal.record, *left)
+
+
+# The entries that keep no book: operands in the order of the line, the answer as bytes.
+
+
+def answer_cts(temperature, metal, certificate, to_places):
+    coefficient = settings.coefficient_of(metal, certificate)
+    if temperature not in ranges.TEMPERATURE:
+        raise Refused(RECORD_FIELD)
+    return ok(cts(temperature, coefficient, to_places))
+
+
+def answer_cps(pressure, inside_diameter, wall, modulus, to_places):
+    settings.judge_pipe(inside_diameter, wall, modulus)
+    if pressure not in ranges.PRESSURE:
+        raise Refused(RECORD_FIELD)
+    return ok(cps(pressure, inside_diameter, wall, modulus, to_places))
+
+
+def answer_cpl(pressure, compressibility, to_places):
+    if not (pressure in ranges.PRESSURE and compressibility in ranges.COMPRESSIBILITY):
+        raise Refused(RECORD_FIELD)
+    return ok(cpl(pressure, compressibility, to_places))
+
+
+def answer_prove(request, *operands):
+    *prover, k_factor, limit, buffer, records = operands
+    try:
+        made = proving.prove(
+            request, settings.Settings(*prover), k_factor, limit, buffer, records
+        )
+    except Refused as refusal:
+        return refused(refusal, buffer)
+    return ok(made.factor, made.first, made.runs, *made.factors, report.packed(made))
+
+
+def answer_runs(*operands):
+    *prover, k_factor, limit, records = operands
+    return ok(proving.accepted_runs(settings.Settings(*prover), k_factor, limit, records))
+
+
+def answer_run(*operands):
+    *prover, k_factor, record = operands
+    return ok(*proving.one_run(settings.Settings(*prover), k_factor, record))
+
+
+def answer_draw(*operands):
+    *prover, records = operands
+    return ok(*draw.draw(settings.Settings(*prover), records))
+
+
+def answer_fill(metal, certificate, record):
+    return ok(*draw.one_fill(metal, certificate, record))
+
+
+def answer_passes(*operands):
+    *prover, records = operands
+    volumes = draw.passes(settings.Settings(*prover), records)
+    return ok(len(volumes), *volumes)
+
+
+def answer_ticket(*operands):
+    return ok(*ticket.ticket(*operands))
+
+
+def answer_live(temperature, pressure):
+    return ok(*live.live(temperature, pressure))
+
+
+def answer_write(request, runs, first, *operands):
+    *factors, buffer = operands
+    try:
+        return ok(report.write(request, runs, first, factors, buffer))
+    except Refused as refusal:
+        return refused(refusal, buffer)
+
+
+def answer_read(buffer):
+    made = report.read(buffer)
+    return ok(made.request, made.factor, made.first, made.runs, *made.factors)
+
+
+# The entries of the kept book: the book that comes back, then the answer.
+
+
+def answer_request(kept, shipper, number):
+    return book.request(kept, shipper, number), ok()
+
+
+def answer_withdraw(kept, shipper, number):
+    return book.withdraw(kept, shipper, number), ok()
+
+
+def answer_take(kept):
+    shipper, number, left = book.take(kept)
+    return left, ok(shipper, number)
+
+
+def answer_book(kept):
+    book.judge_book(kept)
+    values = [kept.last]
+    for shipper in range(book.SHIPPERS):
+        numbers = book.waiting(kept, shipper)
+        values += [len(numbers), *numbers]
+    return kept, ok(*values)
+
+
+def answer_load(_, last, *operands):
+    counts, numbers = operands[: book.SHIPPERS], operands[book.SHIPPERS :]
+    lines = tuple(
+        numbers[shipper * book.PLACES : (shipper + 1) * book.PLACES]
+        for shipper in range(book.SHIPPERS)
+    )
+    return book.Book(last, counts, lines), ok()
+
+
+def answer_empty(_):
+    return book.EMPTY, ok()
+
+
+ENTRIES = {
+    b"cts": ((i16, u8, u16, places), answer_cts),
+    b"cps": ((u16, u32, u32, u32, places), answer_cps),
+    b"cpl": ((u16, u16, places), answer_cpl),
+    b"prove": ((u32, *SETTINGS, u32, u16, octets, octets), answer_prove),
+    b"runs": ((*SETTINGS, u32, u16, octets), answer_runs),
+    b"run": ((*SETTINGS, u32, octets), answer_run),
+    b"draw": ((*SETTINGS, octets), answer_draw),
+    b"fill": ((u8, u16, octets), answer_fill),
+    b"passes": ((*SETTINGS, octets), answer_passes),
+    b"ticket": ((u32, u32, u16, u16, u16, u16, u32), answer_ticket),
+    b"live": ((single, single), answer_live),
+    b"write": ((u32, u8, u8, *(u16,) * 5, octets), answer_write),
+    b"read": ((octets,), answer_read),
+}
+
+BOOK_ENTRIES = {
+    b"request": ((u8, u32), answer_request),
+    b"withdraw": ((u8, u32), answer_withdraw),
+    b"take": ((), answer_take),
+    b"book": ((), answer_book),
+    b"load": ((u8, *(u8,) * 4, *(u32,) * 64), answer_load),
+    b"empty": ((), answer_empty),
+}
+
+
+def operands_of(types, words):
+    if len(types) != len(words):
+        raise BadLine
+    return [read(word) for read, word in zip(types, words)]
+
+
+class Program:
+    """The line program with its one kept book."""
+
+    def __init__(self):
+        self.kept = book.EMPTY
+
+    def answer(self, line):
+        """The answer to a line without its end; None where it has none."""
+        if len(line) > LONGEST:
+            return BAD_LINE
+        line = line.removesuffix(b"\r")
+        if not line or line.startswith(b"#"):
+            return None
+        name, *words = line.split(b" ")
+        try:
+            if name in ENTRIES:
+                types, entry = ENTRIES[name]
+                return entry(*operands_of(types, words))
+            if name in BOOK_ENTRIES:
+                types, entry = BOOK_ENTRIES[name]
+                self.kept, answer = entry(self.kept, *operands_of(types, words))
+                return answer
+        except BadLine:
+            return BAD_LINE
+        except Refused as refusal:
+            return refused(refusal)
+        return BAD_LINE

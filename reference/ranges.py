@@ -1,0 +1,30 @@
+"""Units and ranges (01, Units and ranges; Ticket; Records). Both ends are inside."""
+
+
+def span(first, last):
+    return range(first, last + 1)
+
+
+TEMPERATURE = span(-200, 2000)  # 0.1 °F, prover and meter
+DRAW_PROVER_TEMPERATURE = span(350, 1050)  # 0.1 °F
+DRAW_MEASURE_TEMPERATURE = span(321, 1050)  # 0.1 °F
+PRESSURE = span(0, 1500)  # psi gage
+COEFFICIENT = span(100, 400)  # 10^-7 per °F
+MODULUS = span(10_000_000, 40_000_000)  # psi
+INSIDE_DIAMETER = span(1000, 60000)  # 0.001 inch
+WALL = span(100, 3000)  # 0.001 inch
+COMPRESSIBILITY = span(0, 10000)  # 10^-8 per psi
+CTL = span(5000, 15000)  # 0.0001
+RUN_FACTOR = span(8000, 12000)  # 0.0001
+CTDW = span(980000, 1020000)  # 0.000001
+VOLUME = span(1, 100_000_000)  # 0.0001 barrel, base and indicated
+PULSES = span(1, 100_000_000)
+K_FACTOR = span(1, 1_000_000_000)  # 0.001 pulse per barrel
+LIMIT = span(1, 100)  # 1 in 10,000
+RUNS = span(5, 20)
+PASSES = span(3, 20)
+FILLS = span(3, 60)
+CERTIFIED_VOLUME = span(20_000, 100_000_000)  # 0.01 cubic inch
+SCALE_READING = span(-10000, 10000)  # 0.01 cubic inch
+METER_READING = span(0, 99_999_999)  # 0.01 barrel
+SEDIMENT_AND_WATER = span(0, 100_000)  # 0.001 %

@@ -1,0 +1,13 @@
+"""Lent records: "All 32 bytes, little-endian, no header; bytes not named are zero"."""
+
+from refusals import RECORDS_NOT_WHOLE, Refused
+
+LENGTH = 32
+
+
+def whole_records(lent, how_many):
+    """The records lent, refused 1 where they are "not whole, or too few or many"."""
+    count, left = divmod(len(lent), LENGTH)
+    if left or count not in how_many:
+        raise Refused(RECORDS_NOT_WHOLE)
+    return [lent[at : at + LENGTH] for at in range(0, len(lent), LENGTH)]

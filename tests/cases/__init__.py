@@ -1,0 +1,35 @@
+"""Lines for the comparison, all from one seed: the aimed ones first, then by chance."""
+
+import random
+from itertools import chain, islice
+
+from . import books, draws, factors, grammar, provings, reports, singles, tickets
+
+
+def aimed(rng):
+    for part in (factors, tickets, singles, reports, provings, draws, books, grammar):
+        yield from part.aimed(rng)
+
+
+def by_chance(rng):
+    parts = (
+        (10, factors),
+        (34, provings),
+        (20, draws),
+        (10, tickets),
+        (8, singles),
+        (6, reports),
+        (12, grammar),
+    )
+    weights = [weight for weight, _ in parts]
+    modules = [part for _, part in parts]
+    while True:
+        for part in rng.choices(modules, weights, k=150):
+            yield part.by_chance(rng)
+        yield from books.by_chance(rng)
+
+
+def cases(seed, count):
+    """The first `count` lines, without their ends; none holds an LF."""
+    rng = random.Random(seed)
+    return islice(chain(aimed(rng), by_chance(rng)), count)

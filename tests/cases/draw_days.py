@@ -1,0 +1,76 @@
+"""Draws as an operator has them, most of them accepted or nearly so."""
+
+from dataclasses import replace
+
+from . import ends
+from .arithmetic import cpl, cps, half_up
+from .proving_days import valid_prover, within
+from .shapes import Draw, Fill
+
+WATER = 320
+LIMIT = 2
+
+
+def valid_fill(rng):
+    temperature = rng.randint(350, 1050)
+    return Fill(
+        rng.choice((1_155_150, 693_127, 115_523, rng.randint(20_000, 100_000_000))),
+        rng.randint(-10000, 10000),
+        temperature,
+        within(temperature + rng.randint(-30, 30), (321, 1050)),
+        rng.choice((186, 265, rng.randint(100, 400))),
+        1_000_000 + rng.randint(-400, 400),
+    )
+
+
+def volume_of(fills, prover):
+    divisor = cps(fills[0].pressure, prover.inside, prover.wall, prover.modulus, 6) * cpl(
+        fills[0].pressure, WATER, 6
+    )
+    return half_up(sum(fill.drawn(prover) for fill in fills) * 10**12, divisor)
+
+
+def steered(fills, wanted, prover):
+    """The fills of a pass with the last scale reading moved so that the pass has this volume."""
+    for _ in range(3):
+        off = wanted - volume_of(fills, prover)
+        if off == 0:
+            break
+        scale = within(fills[-1].scale + off, (-10000, 10000))
+        fills = fills[:-1] + [replace(fills[-1], scale=scale)]
+    return fills
+
+
+def valid_draw(rng):
+    prover = valid_prover(rng)
+    count = rng.choice((3, 3, 3, 4, 5, rng.randint(3, 20)))
+    each = rng.randint(1, min(4, 60 // count))
+    measures = [replace(valid_fill(rng), scale=rng.randint(-2000, 2000)) for _ in range(each)]
+    pressure = rng.randint(0, 200)
+    smallest = None
+    fills = []
+    for number in range(1, count + 1):
+        pressure = within(pressure + rng.choice((0, 0, rng.randint(-3, 3))), ends.PRESSURE)
+        own = [
+            replace(
+                fill,
+                pass_number=number,
+                pressure=pressure,
+                ctdw=fill.ctdw + rng.randint(-3, 3),
+                prover_temperature=within(
+                    fill.prover_temperature + rng.randint(-3, 3), (350, 1050)
+                ),
+            )
+            for fill in measures
+        ]
+        if smallest is None:
+            smallest = volume_of(own, prover)
+            allowed = LIMIT * smallest // 10_000
+            spread = rng.choice((allowed // 2, allowed, allowed, allowed + 1))
+            fills += own
+            continue
+        wanted = smallest + rng.choice((0, spread, rng.randint(0, spread)))
+        if rng.random() < 0.1:
+            wanted += rng.choice((-1, 1)) * rng.randint(1, 3 * allowed + 1)
+        fills += steered(own, wanted, prover)
+    return Draw(tuple(fills), prover)

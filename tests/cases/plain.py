@@ -1,0 +1,39 @@
+"""Jobs and draws whose figures are known: the factors of a plain run and fill are all 1."""
+
+from dataclasses import replace
+
+from .arithmetic import half_up
+from .shapes import Draw, Fill, Job, Prover, Run
+
+STEADY_BASE = 20_000_000
+
+
+def plain_job(factors, **others):
+    """A job with these run factors: the corrected volumes are the base volume and, at K 1000
+    pulses per barrel to 0.0001, the pulses."""
+    prover = Prover(base=STEADY_BASE)
+    runs = tuple(Run(half_up(STEADY_BASE * 10**4, factor)) for factor in factors)
+    return Job(runs, prover, **others)
+
+
+def fitted_job(run, prover, k_factor, count=5):
+    """The run, repeated, with the base volume that makes its factor nearest to 1."""
+    indicated = half_up(run.pulses * 10**7, k_factor)
+    base = half_up(indicated * run.meter_product, run.prover_factor(prover))
+    prover = replace(prover, base=min(max(base, 1), 100_000_000))
+    return Job((run,) * count, prover, k_factor)
+
+
+def plain_draw(volumes, fills_each=1, **others):
+    """A draw with these pass volumes: at no pressure and 60 °F what is drawn is the certified
+    volume."""
+    fills = []
+    for number, volume in enumerate(volumes, 1):
+        share = volume // fills_each
+        shares = [share] * (fills_each - 1) + [volume - share * (fills_each - 1)]
+        fills += [Fill(certified, pass_number=number) for certified in shares]
+    return Draw(tuple(fills), **others)
+
+
+def everywhere(draw, **fields):
+    return replace(draw, fills=tuple(replace(fill, **fields) for fill in draw.fills))

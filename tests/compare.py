@@ -1,0 +1,174 @@
+"""The comparison: the program under test and the reference answer the same lines.
+
+Run: python3 tests/compare.py --program CMD [--lines N] [--seed S]
+     python3 tests/compare.py --self          the reference beside itself: do the cases reach all?
+
+Ends with 0 exactly when no answer differs and every entry and number was reached.
+"""
+
+import argparse
+import sys
+from collections import Counter
+from concurrent.futures import ThreadPoolExecutor
+from itertools import islice
+
+from cases import cases
+from cases.grammar import NAMES
+from programs import REFERENCE, Stopped, command, is_silent, run
+
+BATCH = 10_000
+SHOWN = 5
+WIDTH = 240
+
+OK, NONE, BAD = "ok", "no part", "bad line"
+
+# What each entry can answer (01, Numbers given back, and the page on the line program).
+REACHES = {
+    "cts": (OK, 3, 5),
+    "cps": (OK, 3, 5),
+    "cpl": (OK, 5),
+    "prove": (OK, 14, 22, 1, 3, 4, 5, 2, 7, 8, 9),
+    "runs": (OK, NONE),
+    "run": (OK, 1, 3, 4, 5, 2, 7, 8),
+    "draw": (OK, 1, 3, 5, 2, 6, 9),
+    "fill": (OK, 1, 3, 5, 2),
+    "passes": (OK, 1, 3, 5, 2, 6),
+    "ticket": (OK, 10, 11),
+    "live": (OK, 12, 13),
+    "write": (OK, 14, 22, 15),
+    "read": (OK, 14, 15),
+    "request": (OK, 20, 21, 22, 23, 24, 25),
+    "withdraw": (OK, 20, 21, 22, 26),
+    "take": (OK, 20, 27),
+    "book": (OK, 20),
+    "load": (OK,),
+    "empty": (OK,),
+}
+
+
+def outcome(answer):
+    if answer == b"ok -":
+        return NONE
+    if answer.startswith(b"ok"):
+        return OK
+    if answer.startswith(b"refused "):
+        return int(answer.split(b" ")[1])
+    return BAD
+
+
+def entry_of(line):
+    name = line.rstrip(b"\r").split(b" ", 1)[0].decode("latin-1")
+    return name if name in NAMES else None
+
+
+def short(octets):
+    """Readable in a terminal, whatever the bytes."""
+    text = octets.decode("latin-1").encode("unicode_escape").decode("ascii")
+    return text if len(text) <= WIDTH else f"{text[:WIDTH]}.. ({len(octets)} bytes)"
+
+
+class Comparison:
+    def __init__(self, program, keep):
+        self.programs = (REFERENCE, program)
+        self.keep = keep
+        self.lines = 0
+        self.reached = Counter()
+        self.differences = 0
+
+    def batch(self, lines):
+        # every second batch ends without its LF, half of these with a CR
+        turn = self.lines // BATCH % 4
+        if turn == 2:
+            lines[-1] += b"\r"
+        given = b"\n".join(lines) + (b"\n" if turn % 2 else b"")
+        with ThreadPoolExecutor(2) as both:
+            ended = list(both.map(lambda program: run(program, given), self.programs))
+        (reference, reference_stopped), (tested, stopped) = ended
+        if reference_stopped:
+            raise Stopped(reference_stopped)
+        asked = [(at, line) for at, line in enumerate(lines) if not is_silent(line)]
+        if len(reference) != len(asked):
+            raise Stopped(f"the reference gave {len(reference)} answers to {len(asked)} lines")
+        for place, (at, line) in enumerate(asked):
+            expected = reference[place]
+            self.reached[entry_of(line), outcome(expected)] += 1
+            found = tested[place] if place < len(tested) else b"(no answer)"
+            if found != expected:
+                self.differ(lines, at, expected, found)
+        if len(tested) != len(asked):
+            print(f"the program gave {len(tested)} answers to {len(asked)} lines")
+        if len(tested) > len(asked):
+            self.differ(lines, len(lines) - 1, b"(no further answer)", tested[len(asked)])
+        if stopped:
+            raise Stopped(stopped)
+        self.lines += len(lines)
+
+    def differ(self, lines, at, expected, found):
+        self.differences += 1
+        if self.differences > SHOWN:
+            return
+        print(f"line {self.lines + at + 1}: {short(lines[at])}")
+        print(f"  reference {short(expected)}")
+        print(f"  program   {short(found)}")
+        if self.keep and self.differences == 1:
+            with open(self.keep, "wb") as kept:
+                kept.write(b"\n".join(lines[: at + 1]) + b"\n")
+            print(f"  the lines up to it are in {self.keep}")
+
+    def never_reached(self):
+        missing = [
+            f"{entry} {what}"
+            for entry, answers in REACHES.items()
+            for what in (*answers, BAD)
+            if not self.reached[entry, what]
+        ]
+        if not self.reached[None, BAD]:
+            missing.append("unknown name")
+        return missing
+
+    def summary(self):
+        numbers, accepted, bad = Counter(), Counter(), 0
+        for (entry, what), times in self.reached.items():
+            if what == BAD:
+                bad += times
+            elif what in (OK, NONE):
+                accepted[entry] += times if what == OK else 0
+            else:
+                numbers[what] += times
+        told = " ".join(f"{number}:{numbers[number]}" for number in sorted(numbers))
+        taken = " ".join(f"{entry}:{accepted[entry]}" for entry in REACHES)
+        return (
+            f"compare: {self.lines} lines, {sum(self.reached.values())} answers;"
+            f" refused {told}; bad lines {bad}; accepted {taken};"
+            f" differences {self.differences}"
+        )
+
+
+def main():
+    options = argparse.ArgumentParser(description="Compare a program with the reference.")
+    which = options.add_mutually_exclusive_group(required=True)
+    which.add_argument("--program", type=command, help="the command of the program under test")
+    which.add_argument("--self", action="store_true", help="the reference beside itself")
+    options.add_argument("--lines", type=int, default=100_000)
+    options.add_argument("--seed", type=int, default=1)
+    options.add_argument("--keep", help="a file for the lines up to the first difference")
+    chosen = options.parse_args()
+
+    comparison = Comparison(REFERENCE if chosen.self else chosen.program, chosen.keep)
+    stream = cases(chosen.seed, chosen.lines)
+    try:
+        while lines := list(islice(stream, BATCH)):
+            comparison.batch(lines)
+            print(f"{comparison.lines} of {chosen.lines} lines", file=sys.stderr, flush=True)
+    except Stopped as stop:
+        print(f"compare: stopped, {stop}")
+        return 1
+    print(comparison.summary())
+    missing = comparison.never_reached()
+    if missing:
+        print(f"never reached: {', '.join(missing)}")
+    return 1 if missing or comparison.differences else 0
+
+
+if __name__ == "__main__":
+    sys.exit(main())

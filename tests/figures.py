@@ -1,0 +1,128 @@
+"""The figures to hold against (01): each through the line program.
+
+Run: python3 tests/figures.py [--program CMD]
+"""
+
+import argparse
+import sys
+
+from cases.plain import plain_job
+from cases.shapes import Draw, Fill, Job, Prover, Report, Run, line
+from cases.singles import bits, reading
+from programs import REFERENCE, Stopped, answers_of, command
+
+OK = "ok"
+
+
+def factor_figures():
+    yield "CTS at T 70.0, Gc 250", line("cts", 700, 4, 250, 4), "ok 10003"
+    yield "CTS at T 50.0, Gc 250", line("cts", 500, 4, 250, 4), "ok 9998"
+    yield "mild steel at 73.5", line("cts", 735, 0, 0, 6), "ok 1000251"
+    yield "CPS at 50 psi", line("cps", 50, 10020, 365, 28_000_000, 6), "ok 1000049"
+    yield "water at 50 psi", line("cpl", 50, 320, 6), "ok 1000160"
+    for code, coefficient in enumerate((186, 288, 265, 180)):
+        # at 160.0 °F the correction is a hundred coefficients
+        expected = 10**6 + 10 * coefficient
+        yield f"metal {code} at 160.0", line("cts", 1600, code, 0, 6), f"ok {expected}"
+    yield "a certificate wins over the name", line("cts", 1600, 0, 250, 6), "ok 1002500"
+
+
+def run_figure():
+    job = Job((Run(200_000, 735, 735, 40, 40, 9907, 9908, 820, 820),), Prover(base=200_000))
+    yield "the run", job.run(), "ok 200000 10003 10000 10003 9913 10003 9911 198260 198220 10002"
+
+
+def group_figures():
+    def told(factors):
+        return " ".join(str(factor) for factor in factors)
+
+    five = (10000, 10005, 10003, 10001, 10002)
+    report = Report(runs=5, first=1, factors=five).packed.hex()
+    yield "five that agree", plain_job(five).prove, f"ok 10002 1 5 {told(five)} {report}"
+    five = (9999, 10003, 10000, 10001, 10002)
+    report = Report(runs=5, first=1, factors=five).packed.hex()
+    yield "9999 and 10003 may stand", plain_job(five).prove, f"ok 10001 1 5 {told(five)} {report}"
+    five = (9999, 10004, 10000, 10001, 10002)
+    yield "9999 and 10004 may not", plain_job(five).prove, "refused 9 0 " + "00" * 32
+    six = (10010, 10000, 10001, 10002, 10003, 10005)
+    report = "070000001227020610271127122713271527" + "00" * 14
+    used = told(six[1:])
+    yield "the group begins at run 2", plain_job(six).prove, f"ok 10002 2 6 {used} {report}"
+    yield "its records", plain_job(six).accepted, f"ok {plain_job(six[1:]).records.hex()}"
+    yield "its report written", line("write", 7, 6, 2, *six[1:], "ff" * 32), f"ok {report}"
+    yield "its report read", line("read", report), f"ok 7 10002 2 6 {used}"
+
+
+def draw_figures():
+    fill = Fill(1_155_000, 0, 700, 705, 265, 1_000_060)
+    yield "the fill", Draw((fill,), Prover(2)).fill(), "ok 1155000 1000278 1000265 1000013 1155084"
+    barrel = tuple(Fill(970_200, pass_number=number) for number in (1, 2, 3))
+    yield "9702.00 cubic inches", Draw(barrel).draw, "ok 970200 10000 1"
+
+
+def ticket_figure():
+    asked = line("ticket", 10_000_000, 10_050_000, 10002, 9908, 40, 820, 500)
+    yield "the ticket", asked, "ok 9913 49565 49317"
+
+
+def live_figures():
+    yield "73.25 °F", reading(bits(73.25), 0), "ok 733 0"
+    yield "-0.25 °F", reading(bits(-0.25), 0), "ok -3 0"
+    yield "-0.0 °F", reading(bits(-0.0), bits(-0.0)), "ok 0 0"
+    yield "-0.4 psi", reading(0, bits(-0.4)), "ok 0 0"
+    yield "-0.5 psi", reading(0, bits(-0.5)), "refused 13 0"
+
+
+def book_figures():
+    yield "a new book", line("empty"), OK
+    for number in range(1, 9):
+        yield f"shipper 0's request {number}", line("request", 0, number), OK
+    yield "shipper 0's ninth", line("request", 0, 9), "refused 24 0"
+    for number in range(1, 5):
+        yield f"shipper 1's request {number}", line("request", 1, number), OK
+    yield "shipper 1's fifth", line("request", 1, 5), "refused 25 0"
+    yield "shipper 2's first", line("request", 2, 1), OK
+    yield "the book", line("book"), "ok 3 8 1 2 3 4 5 6 7 8 4 1 2 3 4 1 1 0"
+    for shipper, number in ((0, 1), (1, 1), (2, 1), (0, 2)):
+        yield "a take", line("take"), f"ok {shipper} {number}"
+
+
+PARTS = (
+    factor_figures,
+    run_figure,
+    group_figures,
+    draw_figures,
+    ticket_figure,
+    live_figures,
+    book_figures,
+)
+
+
+def main():
+    options = argparse.ArgumentParser(description="Run the figures of document 01.")
+    options.add_argument("--program", type=command, help="the command of the program under test")
+    chosen = options.parse_args()
+
+    figures = [figure for part in PARTS for figure in part()]
+    given = b"\n".join(asked for _, asked, _ in figures) + b"\n"
+    wrong = 0
+    for program in filter(None, (REFERENCE, chosen.program)):
+        try:
+            answers = answers_of(program, given)
+        except Stopped as stop:
+            print(f"figures: stopped, {stop}")
+            return 1
+        if len(answers) != len(figures):
+            print(f"{program[-1]}: {len(answers)} answers to {len(figures)} lines")
+            wrong += 1
+        for (name, _, expected), answer in zip(figures, answers):
+            if answer.decode("latin-1") != expected:
+                wrong += 1
+                print(f"{program[-1]}: {name}: {answer.decode('latin-1')}, not {expected}")
+    through = "both programs" if chosen.program else "the reference"
+    print(f"figures: {len(figures)} lines of the paper's figures through {through}, {wrong} wrong")
+    return 1 if wrong else 0
+
+
+if __name__ == "__main__":
+    sys.exit(main())
