@@ -1,2 +1,4 @@
 pub mod Laws
 pub mod Facts
+pub mod Accepted
+pub mod Figures

@@ -1,0 +1,72 @@
+-- The accepted runs beside the job, given the same input, a 32-byte buffer and a request number that is not zero: they are empty exactly
+-- when the job refuses, and otherwise they are the 160 bytes from the report's first run on.
+use mathlib.Core.Path.{_≡_, refl, sym, ap, _∙_}
+use mathlib.Core.Bool.{not}
+use mathlib.Core.List.{List, []}
+use mathlib.Core.Option.{Option}
+use Prim.Native.Nat.{ℕ, _+_, _*_, _-_, _/_, _≤_}
+use native.Mathlib.Omega.{arith}
+use borrow.Author.Tests.{ne-eqb}
+use lib.Dec.{eqb}
+use lib.ListN.{length, take, drop, length-take, length-drop}
+use Rattle.refusals.specs.Told.{Told, done, refused, Fault, fine, demand, orElse, judged}
+use Rattle.refusals.proofs.Laws.{demand-holds, orElse-next, judged-fine, judged-fault, judged-was, judged-done, judged-refused}
+use Rattle.factors.specs.declared.Prover.{Prover}
+use Rattle.report.specs.Judged.{reportOf}
+use Rattle.report.specs.declared.Report.{Report}
+use Rattle.proving.specs.Judging.{runsIn, inputFault}
+use Rattle.proving.specs.Job.{firstFive, groupFault, placeFound, foundOf, reportAt, jobOf, acceptedBy, acceptedOf}
+use Rattle.proving.proofs.Facts.{FoundAt, found-at}
+
+module _ (request : ℕ) (prover : Prover) (k limit : ℕ) (s : List ℕ) (asked : request ≡ 0 → ⊥) where
+  front : (f : Fault) → orElse (demand (eqb 32 32) 14) (orElse (demand (not (eqb request 0)) 22) f) ≡ f
+  front f = orElse-next _ (demand-holds 22 (ap not (ne-eqb request 0 asked)))
+
+  abbrev sought : Fault
+  sought = orElse (inputFault prover k limit s) (groupFault (firstFive prover k limit s))
+
+  abbrev asking : Fault
+  asking = orElse (demand (eqb 32 32) 14) (orElse (demand (not (eqb request 0)) 22) sought)
+
+  abbrev report : Report
+  report = reportAt request prover k s (placeFound (firstFive prover k limit s))
+
+  -- the number is the one that the job itself gives
+  pub same-number : {number at : ℕ} → jobOf request prover k limit s 32 ≡ refused number at → foundOf prover k limit s ≡ refused number at
+  unfolding jobOf foundOf
+  same-number is = judged-fault _ (sym (front sought) ∙ judged-refused asking report is)
+
+  pub empty-when-refused : {number at : ℕ} → jobOf request prover k limit s 32 ≡ refused number at → acceptedOf prover k limit s ≡ []
+  unfolding acceptedOf
+  empty-when-refused is = ap (λ (t : Told ℕ). acceptedBy t s) (same-number is)
+
+  -- a job that is done found its five, and its report's first run is theirs
+  pub record Begins (r : Report) : Type 0 where
+    pub place : ℕ
+    pub found : foundOf prover k limit s ≡ done place
+    pub first : r .first ≡ place + 1
+
+  pub done-begins : {r : Report} → jobOf request prover k limit s 32 ≡ done r → Begins r
+  unfolding jobOf foundOf reportAt reportOf
+  done-begins {r} is =
+      let clear = judged-was asking report is in
+      record {
+        place = placeFound (firstFive prover k limit s);
+        found = judged-fine _ (sym (front sought) ∙ clear);
+        first = sym (ap (λ (q : Report). q .first) (judged-done asking report is));
+      }
+
+  pub begins-at-first-run : {r : Report} → jobOf request prover k limit s 32 ≡ done r → acceptedOf prover k limit s ≡ take 160 (drop (32 * (r .first - 1)) s)
+  unfolding acceptedOf
+  begins-at-first-run {r} is =
+      let b = done-begins is in
+      let place : b .place ≡ r .first - 1 = omega (arith, b .first) in
+      ap (λ (t : Told ℕ). acceptedBy t s) (b .found) ∙ ap (λ (n : ℕ). take 160 (drop (32 * n) s)) place
+
+  -- so they are not empty
+  pub whole-when-done : {r : Report} → jobOf request prover k limit s 32 ≡ done r → length (acceptedOf prover k limit s) ≡ 160
+  unfolding acceptedOf runsIn
+  whole-when-done is =
+      let b = done-begins is in
+      let f : FoundAt prover k limit s (b .place) = found-at prover k limit s (b .found) in
+      ap (λ (t : Told ℕ). length (acceptedBy t s)) (b .found) ∙ simp (length-take, length-drop) (omega (arith, f .inside, f .settled .whole))
