@@ -1,1 +1,3 @@
 pub mod Figures
+pub mod Groups
+pub mod Demand2
