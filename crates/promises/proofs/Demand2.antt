@@ -1,7 +1,7 @@
 -- Demand 2: 'A job is accepted exactly when its input and each run's own figures are within limits and five consecutive runs, or three
 -- passes of water, meet the repeatability limit. The first such group is the one used.'
 use mathlib.Core.Path.{_≡_, refl, sym, ap, _∙_}
-use mathlib.Core.Bool.{Bool, true, false, not, _&&_}
+use mathlib.Core.Bool.{true, not, _&&_}
 use mathlib.Core.Logic.{by-cases}
 use mathlib.Core.List.{List, [], _∷_, _++_}
 use mathlib.Core.Option.{Option, none, some}
@@ -12,9 +12,9 @@ use borrow.Author.Tests.{eqb-true, eq-eqb, ne-eqb}
 use lib.Dec.{eqb}
 use lib.ListN.{length, getD, List·getD-append}
 use lib.Seq.{getD-append-seam}
-use Rattle.refusals.specs.Told.{Told, done, refused, Fault, fine, fault, demand, demandAt, orElse, judged}
+use Rattle.refusals.specs.Told.{Told, done, Fault, fine, fault, demand, demandAt, orElse}
 use Rattle.refusals.proofs.Laws.{done-one, demand-holds, demandAt-holds, demand-was, demandAt-was, orElse-next, orElse-fine-first, orElse-fine-next, judged-fine, judged-was, judged-done, refused-not-done}
-use Rattle.ranges.specs.Table.{runsOk, kFactorOk, limitOk, volumeOk, runFactorOk, fillsOk, passesOk}
+use Rattle.ranges.specs.Table.{kFactorOk, limitOk, volumeOk, passesOk}
 use Rattle.ranges.proofs.Laws.{both-first, both-second, both-true}
 use Rattle.octets.specs.FirstToLast.{scan}
 use Rattle.octets.proofs.FirstToLast.{faults, empty, nowhere}
@@ -22,23 +22,23 @@ use Rattle.factors.specs.Metal.{metalOk}
 use Rattle.factors.specs.Answers.{pipeOk}
 use Rattle.factors.specs.declared.Prover.{Prover}
 use Rattle.group.specs.Mean.{meanOf}
-use Rattle.group.specs.Repeatability.{qualifies, groupAt, firstGroup}
+use Rattle.group.specs.Repeatability.{groupAt, firstGroup}
 use Rattle.report.specs.Record.{listOf}
 use Rattle.report.specs.Judged.{reportOf}
 use Rattle.report.specs.declared.Report.{Report}
-use Rattle.run.specs.Record.{runAt, fieldsOk, unnamedOk}
+use Rattle.run.specs.Record.{runAt, fieldsOk}
 use Rattle.run.specs.Figures.{figuresOf}
 use Rattle.run.specs.Answers.{proverOk, figuresFault}
 use Rattle.proving.specs.Judging.{runsIn, sizeOk, settingsFault, recordFault, runFault, inputFault}
 use Rattle.proving.specs.Job.{factorAt, listed, factorsOf, firstFive, groupFault, placeFound, fiveAt, reportAt, jobOf}
 use Rattle.proving.proofs.Laws.{listed-value, listed-length}
-use Rattle.draw.specs.Fill.{fillAt, ruleOk, fieldsOk as fillFieldsOk, unnamedOk as fillUnnamedOk}
+use Rattle.draw.specs.Fill.{fillAt, fieldsOk as fillFieldsOk}
 use Rattle.draw.specs.Passes.{fillsIn, lengthOk, passCount, passVolume, volumesTo, volumesOf}
 use Rattle.draw.specs.Base.{barrelsOf, baseFrom}
 use Rattle.draw.specs.Answers.{recordFault as recordFaultOfFill, fillFault, drawFault, decidedBy, unless, drawOf}
 use Rattle.draw.specs.declared.BaseVolume.{BaseVolume}
 use Rattle.draw.proofs.Volumes.{length-volumes}
-use Rattle.promises.specs.Proving.{InputWithin, FiguresWithin, FiveMeet, Acceptable, Used}
+use Rattle.promises.specs.Proving.{InputWithin, FiguresWithin, Acceptable, Used}
 use Rattle.promises.specs.WaterDraw as draw
 use Rattle.promises.proofs.Groups.{apart, Least, group-listed, first-least, some-found}
 
