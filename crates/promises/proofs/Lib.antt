@@ -1,6 +1,7 @@
 pub mod Figures
+pub mod Endings
+pub mod Demand1
 pub mod Groups
 pub mod Demand2
 pub mod Formulas
-pub mod Endings
-pub mod Demand1
+pub mod Demand3
