@@ -5,3 +5,5 @@ pub mod Groups
 pub mod Demand2
 pub mod Formulas
 pub mod Demand3
+pub mod Answers
+pub mod OneOutcome
