@@ -7,3 +7,4 @@ pub mod Formulas
 pub mod Demand3
 pub mod Answers
 pub mod OneOutcome
+pub mod Keeper
