@@ -1,7 +1,8 @@
 -- 01, 'How much a contract says': 'Every public function states its entire outcome for all inputs: what it returns, and the bytes and book
 -- left behind, also when it refuses. That no second outcome satisfies the statement is itself proved'. Of the contracts themselves:
 -- `f.Post κ a r x` is what the function f ensures of the arguments a at entry, the answer r and the arguments x at exit (κ are the
--- lifetimes of what is lent).
+-- lifetimes of what is lent). `keeper`'s three functions are in Keeper.antt; `book::sound::is_sound`, which `book` does not export, is
+-- `is-sound-one-outcome` of `book`.
 use mathlib.Core.Path.{_≡_, sym, _∙_}
 use mathlib.Core.List.{List}
 use Prim.Native.Nat.{ℕ}
@@ -71,188 +72,113 @@ OneRead {K} {A} {R} {X} post bytes = (κ : K) (a : A κ) (r q : R κ) (x y : X �
 abbrev pub OneLeft : {K : Type 0} {A R X : K → Type 0} → ((κ : K) → A κ → R κ → X κ → Type 0) → ((κ : K) → X κ → List ℕ) → Type 0
 OneLeft {K} {A} {R} {X} post bytes = (κ : K) (a : A κ) (r q : R κ) (x y : X κ) → post κ a r x → post κ a q y → bytes κ x ≡ bytes κ y
 
--- ---- refusals
+-- two that are equal to a third are equal
+same : {A : Type 0} {r q m : A} → r ≡ m → q ≡ m → r ≡ q
+same p p′ = p ∙ sym p′
 
-pub refusals-give-back-one : OneAnswer refusals-give-back.Post
-refusals-give-back-one κ a r q x y p p′ = p ∙ sym p′
+pub record OneOutcome : Type 0 where
+  pub refusals-give-back-one : OneAnswer refusals-give-back.Post
+  pub ranges-is-within-one : OneAnswer ranges-is-within.Post
+  pub ranges-is-within-signed-one : OneAnswer ranges-is-within-signed.Post
+  pub exact-product-one : OneAnswer exact-product.Post
+  pub exact-rounded-quotient-one : OneAnswer exact-rounded-quotient.Post
+  pub exact-rounded-ratio-one : OneAnswer exact-rounded-ratio.Post
+  pub exact-value-or-zero-one : OneAnswer exact-value-or-zero.Post
+  pub factors-coefficient-one : OneAnswer factors-coefficient.Post
+  pub factors-is-metal-one : OneAnswer factors-is-metal.Post
+  pub factors-is-pipe-one : OneAnswer factors-is-pipe.Post
+  pub factors-cts-one : OneAnswer factors-cts.Post
+  pub factors-cps-one : OneAnswer factors-cps.Post
+  pub factors-cpl-one : OneAnswer factors-cpl.Post
+  pub factors-value-or-zero-one : OneAnswer factors-value-or-zero.Post
+  pub factors-combine-one : OneAnswer factors-combine.Post
+  pub factors-combined-or-zero-one : OneAnswer factors-combined-or-zero.Post
+  pub octets-byte-at-one : OneAnswer octets-byte-at.Post
+  pub octets-word-at-one : OneAnswer octets-word-at.Post
+  pub octets-long-at-one : OneAnswer octets-long-at.Post
+  pub octets-signed-at-one : OneAnswer octets-signed-at.Post
+  pub octets-are-zero-one : OneAnswer octets-are-zero.Post
+  pub octets-word-bytes-one : OneAnswer octets-word-bytes.Post
+  pub octets-long-bytes-one : OneAnswer octets-long-bytes.Post
+  -- the bytes left in `to`
+  pub octets-write-at-one : OneLeft octets-write-at.Post (λ κ x. x .1 .0 .now)
+  pub group-is-group-one : OneAnswer group-is-group.Post
+  pub group-first-group-one : OneAnswer group-first-group.Post
+  pub group-mean-one : OneAnswer group-mean.Post
+  pub report-write-one : OneAnswer report-write.Post
+  -- and the bytes left in its buffer
+  pub report-write-left : OneLeft report-write.Post (λ κ x. x .1 .1 .1 .1 .0 .now)
+  pub report-read-one : OneAnswer report-read.Post
+  pub run-decode-one : OneAnswer run-decode.Post
+  pub run-is-run-one : OneAnswer run-is-run.Post
+  pub run-is-prover-one : OneAnswer run-is-prover.Post
+  pub run-work-out-one : OneAnswer run-work-out.Post
+  pub run-find-factor-one : OneAnswer run-find-factor.Post
+  pub run-show-one : OneAnswer run-show.Post
+  pub proving-prove-one : OneAnswer proving-prove.Post
+  -- and the bytes left in its buffer
+  pub proving-prove-left : OneLeft proving-prove.Post (λ κ x. x .1 .1 .1 .1 .1 .0 .now)
+  -- the part handed back, by the bytes in it: of the place that holds them a contract over values can't speak
+  pub proving-accept-one : OneRead proving-accept.Post (λ κ r. r .now)
+  pub draw-fill-one : OneAnswer draw-fill.Post
+  pub draw-passes-one : OneAnswer draw-passes.Post
+  pub draw-draw-one : OneAnswer draw-draw.Post
+  pub ticket-work-out-one : OneAnswer ticket-work-out.Post
+  pub live-convert-one : OneAnswer live-convert.Post
+  pub book-empty-one : OneAnswer book-empty.Post
+  pub book-request-one : OneAnswer book-request.Post
+  pub book-withdraw-one : OneAnswer book-withdraw.Post
+  pub book-take-one : OneAnswer book-take.Post
 
--- ---- ranges
-
-pub ranges-is-within-one : OneAnswer ranges-is-within.Post
-ranges-is-within-one κ a r q x y p p′ = p ∙ sym p′
-
-pub ranges-is-within-signed-one : OneAnswer ranges-is-within-signed.Post
-ranges-is-within-signed-one κ a r q x y p p′ = p ∙ sym p′
-
--- ---- exact
-
-pub exact-product-one : OneAnswer exact-product.Post
-exact-product-one κ a r q x y p p′ = p ∙ sym p′
-
-pub exact-rounded-quotient-one : OneAnswer exact-rounded-quotient.Post
-exact-rounded-quotient-one κ a r q x y p p′ = p ∙ sym p′
-
-pub exact-rounded-ratio-one : OneAnswer exact-rounded-ratio.Post
-exact-rounded-ratio-one κ a r q x y p p′ = p ∙ sym p′
-
-pub exact-value-or-zero-one : OneAnswer exact-value-or-zero.Post
-exact-value-or-zero-one κ a r q x y p p′ = p ∙ sym p′
-
--- ---- factors
-
-pub factors-coefficient-one : OneAnswer factors-coefficient.Post
-factors-coefficient-one κ a r q x y p p′ = p ∙ sym p′
-
-pub factors-is-metal-one : OneAnswer factors-is-metal.Post
-factors-is-metal-one κ a r q x y p p′ = p ∙ sym p′
-
-pub factors-is-pipe-one : OneAnswer factors-is-pipe.Post
-factors-is-pipe-one κ a r q x y p p′ = p ∙ sym p′
-
-pub factors-cts-one : OneAnswer factors-cts.Post
-factors-cts-one κ a r q x y p p′ = factor-one r q (p ∙ sym p′)
-
-pub factors-cps-one : OneAnswer factors-cps.Post
-factors-cps-one κ a r q x y p p′ = factor-one r q (p ∙ sym p′)
-
-pub factors-cpl-one : OneAnswer factors-cpl.Post
-factors-cpl-one κ a r q x y p p′ = factor-one r q (p ∙ sym p′)
-
-pub factors-value-or-zero-one : OneAnswer factors-value-or-zero.Post
-factors-value-or-zero-one κ a r q x y p p′ = p ∙ sym p′
-
-pub factors-combine-one : OneAnswer factors-combine.Post
-factors-combine-one κ a r q x y p p′ = p ∙ sym p′
-
-pub factors-combined-or-zero-one : OneAnswer factors-combined-or-zero.Post
-factors-combined-or-zero-one κ a r q x y p p′ = p ∙ sym p′
-
--- ---- octets
-
-pub octets-byte-at-one : OneAnswer octets-byte-at.Post
-octets-byte-at-one κ a r q x y p p′ = p ∙ sym p′
-
-pub octets-word-at-one : OneAnswer octets-word-at.Post
-octets-word-at-one κ a r q x y p p′ = p ∙ sym p′
-
-pub octets-long-at-one : OneAnswer octets-long-at.Post
-octets-long-at-one κ a r q x y p p′ = p ∙ sym p′
-
-pub octets-signed-at-one : OneAnswer octets-signed-at.Post
-octets-signed-at-one κ a r q x y p p′ = p ∙ sym p′
-
-pub octets-are-zero-one : OneAnswer octets-are-zero.Post
-octets-are-zero-one κ a r q x y p p′ = p ∙ sym p′
-
-pub octets-word-bytes-one : OneAnswer octets-word-bytes.Post
-octets-word-bytes-one κ a r q x y p p′ = p ∙ sym p′
-
-pub octets-long-bytes-one : OneAnswer octets-long-bytes.Post
-octets-long-bytes-one κ a r q x y p p′ = p ∙ sym p′
-
--- the bytes left in `to`
-pub octets-write-at-one : OneLeft octets-write-at.Post (λ κ x. x .1 .0 .now)
-octets-write-at-one κ a r q x y p p′ = p ∙ sym p′
-
--- ---- group
-
-pub group-is-group-one : OneAnswer group-is-group.Post
-group-is-group-one κ a r q x y p p′ = p ∙ sym p′
-
-pub group-first-group-one : OneAnswer group-first-group.Post
-group-first-group-one κ a r q x y p p′ = place-one r q (p ∙ sym p′)
-
-pub group-mean-one : OneAnswer group-mean.Post
-group-mean-one κ a r q x y p p′ = p ∙ sym p′
-
--- ---- report
-
-pub report-write-one : OneAnswer report-write.Post
-report-write-one κ a r q x y p p′ = report-one r q (p .0 ∙ sym (p′ .0))
-
--- and the bytes left in the buffer
-pub report-write-left : OneLeft report-write.Post (λ κ x. x .1 .1 .1 .1 .0 .now)
-report-write-left κ a r q x y p p′ = p .1 ∙ sym (p′ .1)
-
-pub report-read-one : OneAnswer report-read.Post
-report-read-one κ a r q x y p p′ = report-one r q (p ∙ sym p′)
-
--- ---- run
-
-pub run-decode-one : OneAnswer run-decode.Post
-run-decode-one κ a r q x y p p′ = p ∙ sym p′
-
-pub run-is-run-one : OneAnswer run-is-run.Post
-run-is-run-one κ a r q x y p p′ = p ∙ sym p′
-
-pub run-is-prover-one : OneAnswer run-is-prover.Post
-run-is-prover-one κ a r q x y p p′ = p ∙ sym p′
-
-pub run-work-out-one : OneAnswer run-work-out.Post
-run-work-out-one κ a r q x y p p′ = worked-one r q (p ∙ sym p′)
-
-pub run-find-factor-one : OneAnswer run-find-factor.Post
-run-find-factor-one κ a r q x y p p′ = outcome-one r q (p ∙ sym p′)
-
-pub run-show-one : OneAnswer run-show.Post
-run-show-one κ a r q x y p p′ = worked-one r q (p ∙ sym p′)
-
--- ---- proving
-
-pub proving-prove-one : OneAnswer proving-prove.Post
-proving-prove-one κ a r q x y p p′ = report-one r q (p .0 ∙ sym (p′ .0))
-
--- and the bytes left in the buffer
-pub proving-prove-left : OneLeft proving-prove.Post (λ κ x. x .1 .1 .1 .1 .1 .0 .now)
-proving-prove-left κ a r q x y p p′ = p .1 ∙ sym (p′ .1)
-
--- the part handed back, by the bytes in it; that it is the caller's own memory is its type
-pub proving-accept-one : OneRead proving-accept.Post (λ κ r. r .now)
-proving-accept-one κ a r q x y p p′ = p ∙ sym p′
-
--- ---- draw
-
-pub draw-fill-one : OneAnswer draw-fill.Post
-draw-fill-one κ a r q x y p p′ = fill-one r q (p ∙ sym p′)
-
-pub draw-passes-one : OneAnswer draw-passes.Post
-draw-passes-one κ a r q x y p p′ =
-    let answer = passes-one (r .answer) (q .answer) (p .0 ∙ sym (p′ .0)) in
-    let volumes = p .1 ∙ sym (p′ .1) in
-    λ i. record { answer = answer i; volumes = volumes i }
-
-pub draw-draw-one : OneAnswer draw-draw.Post
-draw-draw-one κ a r q x y p p′ = draw-one r q (p ∙ sym p′)
-
--- ---- ticket
-
-pub ticket-work-out-one : OneAnswer ticket-work-out.Post
-ticket-work-out-one κ a r q x y p p′ = ticket-one r q (p ∙ sym p′)
-
--- ---- live
-
-pub live-convert-one : OneAnswer live-convert.Post
-live-convert-one κ a r q x y p p′ = live-one r q (p ∙ sym p′)
-
--- ---- book
-
-pub book-empty-one : OneAnswer book-empty.Post
-book-empty-one κ a r q x y p p′ = p ∙ sym p′
-
-pub book-request-one : OneAnswer book-request.Post
-book-request-one κ a r q x y p p′ =
-    let answer = entry-one (r .answer) (q .answer) (p .0 ∙ sym (p′ .0)) in
-    let left = p .1 ∙ sym (p′ .1) in
-    λ i. record { book = left i; answer = answer i }
-
-pub book-withdraw-one : OneAnswer book-withdraw.Post
-book-withdraw-one κ a r q x y p p′ =
-    let answer = withdrawal-one (r .answer) (q .answer) (p .0 ∙ sym (p′ .0)) in
-    let left = p .1 ∙ sym (p′ .1) in
-    λ i. record { book = left i; answer = answer i }
-
-pub book-take-one : OneAnswer book-take.Post
-book-take-one κ a r q x y p p′ =
-    let answer = handout-one (r .answer) (q .answer) (p .0 ∙ sym (p′ .0)) in
-    let left = p .1 ∙ sym (p′ .1) in
-    λ i. record { book = left i; answer = answer i }
+pub one-outcome : OneOutcome
+one-outcome =
+    record {
+      refusals-give-back-one = λ _ _ _ _ _ _. same;
+      ranges-is-within-one = λ _ _ _ _ _ _. same;
+      ranges-is-within-signed-one = λ _ _ _ _ _ _. same;
+      exact-product-one = λ _ _ _ _ _ _. same;
+      exact-rounded-quotient-one = λ _ _ _ _ _ _. same;
+      exact-rounded-ratio-one = λ _ _ _ _ _ _. same;
+      exact-value-or-zero-one = λ _ _ _ _ _ _. same;
+      factors-coefficient-one = λ _ _ _ _ _ _. same;
+      factors-is-metal-one = λ _ _ _ _ _ _. same;
+      factors-is-pipe-one = λ _ _ _ _ _ _. same;
+      factors-cts-one = λ _ _ r q _ _ p p′. factor-one r q (same p p′);
+      factors-cps-one = λ _ _ r q _ _ p p′. factor-one r q (same p p′);
+      factors-cpl-one = λ _ _ r q _ _ p p′. factor-one r q (same p p′);
+      factors-value-or-zero-one = λ _ _ _ _ _ _. same;
+      factors-combine-one = λ _ _ _ _ _ _. same;
+      factors-combined-or-zero-one = λ _ _ _ _ _ _. same;
+      octets-byte-at-one = λ _ _ _ _ _ _. same;
+      octets-word-at-one = λ _ _ _ _ _ _. same;
+      octets-long-at-one = λ _ _ _ _ _ _. same;
+      octets-signed-at-one = λ _ _ _ _ _ _. same;
+      octets-are-zero-one = λ _ _ _ _ _ _. same;
+      octets-word-bytes-one = λ _ _ _ _ _ _. same;
+      octets-long-bytes-one = λ _ _ _ _ _ _. same;
+      octets-write-at-one = λ _ _ _ _ _ _. same;
+      group-is-group-one = λ _ _ _ _ _ _. same;
+      group-first-group-one = λ _ _ r q _ _ p p′. place-one r q (same p p′);
+      group-mean-one = λ _ _ _ _ _ _. same;
+      report-write-one = λ _ _ r q _ _ p p′. report-one r q (same (p .0) (p′ .0));
+      report-write-left = λ _ _ _ _ _ _ p p′. same (p .1) (p′ .1);
+      report-read-one = λ _ _ r q _ _ p p′. report-one r q (same p p′);
+      run-decode-one = λ _ _ _ _ _ _. same;
+      run-is-run-one = λ _ _ _ _ _ _. same;
+      run-is-prover-one = λ _ _ _ _ _ _. same;
+      run-work-out-one = λ _ _ r q _ _ p p′. worked-one r q (same p p′);
+      run-find-factor-one = λ _ _ r q _ _ p p′. outcome-one r q (same p p′);
+      run-show-one = λ _ _ r q _ _ p p′. worked-one r q (same p p′);
+      proving-prove-one = λ _ _ r q _ _ p p′. report-one r q (same (p .0) (p′ .0));
+      proving-prove-left = λ _ _ _ _ _ _ p p′. same (p .1) (p′ .1);
+      proving-accept-one = λ _ _ _ _ _ _. same;
+      draw-fill-one = λ _ _ r q _ _ p p′. fill-one r q (same p p′);
+      draw-passes-one = λ _ _ r q _ _ p p′ i. record { answer = passes-one (r .answer) (q .answer) (same (p .0) (p′ .0)) i; volumes = same (p .1) (p′ .1) i };
+      draw-draw-one = λ _ _ r q _ _ p p′. draw-one r q (same p p′);
+      ticket-work-out-one = λ _ _ r q _ _ p p′. ticket-one r q (same p p′);
+      live-convert-one = λ _ _ r q _ _ p p′. live-one r q (same p p′);
+      book-empty-one = λ _ _ _ _ _ _. same;
+      book-request-one = λ _ _ r q _ _ p p′ i. record { book = same (p .1) (p′ .1) i; answer = entry-one (r .answer) (q .answer) (same (p .0) (p′ .0)) i };
+      book-withdraw-one = λ _ _ r q _ _ p p′ i. record { book = same (p .1) (p′ .1) i; answer = withdrawal-one (r .answer) (q .answer) (same (p .0) (p′ .0)) i };
+      book-take-one = λ _ _ r q _ _ p p′ i. record { book = same (p .1) (p′ .1) i; answer = handout-one (r .answer) (q .answer) (same (p .0) (p′ .0)) i };
+    }
