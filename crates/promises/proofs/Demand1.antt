@@ -80,8 +80,8 @@ pub factor-ends : (prover : Prover) (k : ℕ) (run : Run) (at : ℕ) → Ends (3
 factor-ends prover k run at = only (workedOf prover k run at) (worked-ends prover k run at)
   where
     only : (t : Told Figures) → Ends (3 ∷ 4 ∷ 5 ∷ 7 ∷ 8 ∷ []) at at t → Ends (3 ∷ 4 ∷ 5 ∷ 7 ∷ 8 ∷ []) at at (factorOnly t)
-    only (done figures) ok = tt
-    only (refused number record-at) ok = ok
+    only (done figures) ok = record { gives = tt }
+    only (refused number record-at) ok = record { gives = ok .gives }
 
 pub shown-ends : (prover : Prover) (k : ℕ) (s : List ℕ) → Ends (1 ∷ 3 ∷ 4 ∷ 5 ∷ 2 ∷ 7 ∷ 8 ∷ []) 1 1 (shownOf prover k s)
 unfolding shownOf isOneOf starred recordOk refusalOk
@@ -182,9 +182,9 @@ unfolding drawOf isOneOf starred recordOk refusalOk
 draw-ends prover s = judged-first (drawFault prover s) (firstGroup 2 3 (volumesOf prover s)) (let of = of-records (fillsIn s) in draw-finds prover s refl refl of of of)
   where
     judged-first : (f : Fault) (o : Option ℕ) → Finds (1 ∷ 3 ∷ 5 ∷ 2 ∷ 6 ∷ 9 ∷ []) 1 (fillsIn s) f → Ends (1 ∷ 3 ∷ 5 ∷ 2 ∷ 6 ∷ 9 ∷ []) 1 (fillsIn s) (unless f (decidedBy (volumesOf prover s) o))
-    judged-first fine none ok = refl
-    judged-first fine (some at) ok = tt
-    judged-first (fault number at) o ok = ok .number
+    judged-first fine none ok = record { gives = refl }
+    judged-first fine (some at) ok = record { gives = tt }
+    judged-first (fault number at) o ok = record { gives = ok .number }
 
 -- ---- 'A ticket: 10, 11.' A live reading: 12, 13.
 

@@ -38,8 +38,8 @@ module _ {numbers : List ℕ} {first last : ℕ} where
   by-scan f (suc n) i each = in-order (f i) (scan f n (i + 1)) (each i (omega arith) (omega arith)) (by-scan f n (i + 1) (λ j from below. each j (omega arith) (omega arith)))
 
   judged-ends : {A : Type 0} (f : Fault) (x : A) → Finds numbers first last f → Ends numbers first last (judged f x)
-  judged-ends fine x ok = tt
-  judged-ends (fault number at) x ok = ok .number
+  judged-ends fine x ok = record { gives = tt }
+  judged-ends (fault number at) x ok = record { gives = ok .number }
 
   pub by-judged : {A : Type 0} {f : Fault} (x : A) → Finds numbers first last f → Ends numbers first last (judged f x)
   by-judged {A} {f} x ok = judged-ends f x ok

@@ -1,6 +1,7 @@
 pub mod Figures
 pub mod Endings
 pub mod Demand1
+pub mod Entries
 pub mod Groups
 pub mod Demand2
 pub mod Formulas

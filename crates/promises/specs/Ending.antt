@@ -24,7 +24,10 @@ recordOk first last number at = cond (isOneOf number starred) (within first last
 unfoldable pub refusalOk : List ℕ → ℕ → ℕ → ℕ → ℕ → Bool
 refusalOk numbers first last number at = isOneOf number numbers && recordOk first last number at
 
+abbrev pub Gives : {A : Type 0} → List ℕ → ℕ → ℕ → Told A → Type 0
+Gives numbers first last (done result) = Unit {0}
+Gives numbers first last (refused number at) = refusalOk numbers first last number at ≡ true
+
 -- 'it ends with either its result or one number from the table'
-abbrev pub Ends : {A : Type 0} → List ℕ → ℕ → ℕ → Told A → Type 0
-Ends numbers first last (done result) = Unit {0}
-Ends numbers first last (refused number at) = refusalOk numbers first last number at ≡ true
+pub record Ends {A : Type 0} (numbers : List ℕ) (first last : ℕ) (t : Told A) : Type 0 where
+  pub gives : Gives numbers first last t
