@@ -5,14 +5,14 @@ use mathlib.Core.Bool.{true, not, _&&_}
 use mathlib.Core.Logic.{by-cases}
 use mathlib.Core.List.{List, [], _∷_, _++_}
 use mathlib.Core.Option.{Option, none, some}
-use Prim.Native.Nat.{ℕ, zero, suc, _+_, _*_, _/_, _%_, _≤_, _<_}
+use Prim.Native.Nat.{ℕ, zero, suc, _+_, _*_, _/_, _%_, _≤_, _<_, _-_}
 use native.Mathlib.Decide.{decLt}
 use native.Mathlib.Omega.{arith}
 use borrow.Author.Tests.{eqb-true, eq-eqb, ne-eqb}
 use lib.Dec.{eqb}
-use lib.ListN.{length, getD, List·getD-append}
+use lib.ListN.{length, getD, take, drop, List·getD-append}
 use lib.Seq.{getD-append-seam}
-use Rattle.refusals.specs.Told.{Told, done, Fault, fine, fault, demand, demandAt, orElse}
+use Rattle.refusals.specs.Told.{Told, done, Fault, fine, fault, demand, demandAt, orElse, refused}
 use Rattle.refusals.proofs.Laws.{done-one, demand-holds, demandAt-holds, demand-was, demandAt-was, orElse-next, orElse-fine-first, orElse-fine-next, judged-fine, judged-was, judged-done, refused-not-done}
 use Rattle.ranges.specs.Table.{kFactorOk, limitOk, volumeOk, passesOk}
 use Rattle.ranges.proofs.Laws.{both-first, both-second, both-true}
@@ -22,7 +22,8 @@ use Rattle.factors.specs.Metal.{metalOk}
 use Rattle.factors.specs.Answers.{pipeOk}
 use Rattle.factors.specs.declared.Prover.{Prover}
 use Rattle.group.specs.Mean.{meanOf}
-use Rattle.group.specs.Repeatability.{groupAt, firstGroup}
+use Rattle.group.specs.Repeatability.{qualifies, groupAt, firstGroup}
+use Rattle.group.proofs.Groups.{qualifies-repeats, repeats-qualifies}
 use Rattle.report.specs.Record.{listOf}
 use Rattle.report.specs.Judged.{reportOf}
 use Rattle.report.specs.declared.Report.{Report}
@@ -30,7 +31,8 @@ use Rattle.run.specs.Record.{runAt, fieldsOk}
 use Rattle.run.specs.Figures.{figuresOf}
 use Rattle.run.specs.Answers.{proverOk, figuresFault}
 use Rattle.proving.specs.Judging.{runsIn, sizeOk, settingsFault, recordFault, runFault, inputFault}
-use Rattle.proving.specs.Job.{factorAt, listed, factorsOf, firstFive, groupFault, placeFound, fiveAt, reportAt, jobOf}
+use Rattle.proving.specs.Job.{factorAt, listed, factorsOf, firstFive, groupFault, placeFound, fiveAt, reportAt, jobOf, foundOf, acceptedOf}
+use Rattle.proving.proofs.Accepted.{same-number, empty-when-refused, begins-at-first-run, whole-when-done}
 use Rattle.proving.proofs.Laws.{listed-value, listed-length}
 use Rattle.draw.specs.Fill.{fillAt, fieldsOk as fillFieldsOk}
 use Rattle.draw.specs.Passes.{fillsIn, lengthOk, passCount, passVolume, volumesTo, volumesOf}
@@ -41,6 +43,24 @@ use Rattle.draw.proofs.Volumes.{length-volumes}
 use Rattle.promises.specs.Proving.{InputWithin, FiguresWithin, Acceptable, Used}
 use Rattle.promises.specs.WaterDraw as draw
 use Rattle.promises.proofs.Groups.{apart, Least, group-listed, first-least, some-found}
+
+-- 'meet the repeatability limit', in plain numbers: of the n values from a place on, every two differ by no more than `limit`
+-- ten-thousandths of any; and values of which that is so meet it
+abbrev pub Repeatable : (ℕ → ℕ) → ℕ → ℕ → ℕ → Type 0
+Repeatable f limit n at = (i j m : ℕ) → i < n → j < n → m < n → (f (at + i) - f (at + j)) * 10000 ≤ limit * f (at + m)
+
+module _ (f : ℕ → ℕ) (limit n at : ℕ) where
+  pub meeting-is-repeatable : qualifies limit (listed f n at) ≡ true → Repeatable f limit n at
+  meeting-is-repeatable is i j m hi hj hm =
+      let long : length (listed f n at) ≡ n = listed-length f n at in
+      let said : (getD (listed f n at) i 0 - getD (listed f n at) j 0) * 10000 ≤ limit * getD (listed f n at) m 0 = qualifies-repeats limit (listed f n at) is i j m (omega arith) (omega arith) (omega arith) in
+      rw (listed-value f n at i hi, listed-value f n at j hj, listed-value f n at m hm) at said
+
+  pub repeatable-is-meeting : 0 < n → Repeatable f limit n at → qualifies limit (listed f n at) ≡ true
+  repeatable-is-meeting some-values each =
+      let long : length (listed f n at) ≡ n = listed-length f n at in
+      repeats-qualifies limit (listed f n at) (omega arith)
+      (λ i j m hi hj hm. let said : (f (at + i) - f (at + j)) * 10000 ≤ limit * f (at + m) = each i j m (omega arith) (omega arith) (omega arith) in rw (listed-value f n at i (omega arith), listed-value f n at j (omega arith), listed-value f n at m (omega arith)) said)
 
 not-zero : (n : ℕ) → not (eqb n 0) ≡ true → n ≡ 0 → ⊥
 not-zero n is zero-is = apart (sym is ∙ ap not (eq-eqb n 0 zero-is))
@@ -197,6 +217,15 @@ module _ (prover : Prover) (k limit : ℕ) (s : List ℕ) where
           factors = ap (λ (q : Report). listOf (q .factors)) (c .is) ∙ five-listed (c .place) room;
           factor = ap (λ (q : Report). q .factor) (c .is) ∙ ap meanOf (five-listed (c .place) room);
         }
+
+  -- 01: 'the five accepted run records are handed back as a part of the lent records; a refused job hands back the empty part and no number.
+  -- The number is the one that the job itself, with a 32-byte buffer and a non-zero request number, gives for the same input.'
+  module _ (request : ℕ) (asked : request ≡ 0 → ⊥) where
+    pub accepted-runs : {r : Report} → jobOf request prover k limit s 32 ≡ done r → (acceptedOf prover k limit s ≡ take 160 (drop (32 * (r .first - 1)) s)) × (length (acceptedOf prover k limit s) ≡ 160)
+    accepted-runs is = (begins-at-first-run request prover k limit s asked is, whole-when-done request prover k limit s asked is)
+
+    pub no-accepted-runs : {number at : ℕ} → jobOf request prover k limit s 32 ≡ refused number at → (acceptedOf prover k limit s ≡ []) × (foundOf prover k limit s ≡ refused number at)
+    no-accepted-runs is = (empty-when-refused request prover k limit s asked is, same-number request prover k limit s asked is)
 
 -- ---- the water draw
 
