@@ -1,0 +1,303 @@
+-- Demand 2: 'A job is accepted exactly when its input and each run's own figures are within limits and five consecutive runs, or three
+-- passes of water, meet the repeatability limit. The first such group is the one used.'
+use mathlib.Core.Path.{_≡_, refl, sym, ap, _∙_}
+use mathlib.Core.Bool.{true, not, _&&_}
+use mathlib.Core.Logic.{by-cases}
+use mathlib.Core.List.{List, [], _∷_, _++_}
+use mathlib.Core.Option.{Option, none, some}
+use Prim.Native.Nat.{ℕ, zero, suc, _+_, _*_, _/_, _%_, _≤_, _<_}
+use native.Mathlib.Decide.{decLt}
+use native.Mathlib.Omega.{arith}
+use borrow.Author.Tests.{eqb-true, eq-eqb, ne-eqb}
+use lib.Dec.{eqb}
+use lib.ListN.{length, getD, List·getD-append}
+use lib.Seq.{getD-append-seam}
+use Rattle.refusals.specs.Told.{Told, done, Fault, fine, fault, demand, demandAt, orElse}
+use Rattle.refusals.proofs.Laws.{done-one, demand-holds, demandAt-holds, demand-was, demandAt-was, orElse-next, orElse-fine-first, orElse-fine-next, judged-fine, judged-was, judged-done, refused-not-done}
+use Rattle.ranges.specs.Table.{kFactorOk, limitOk, volumeOk, passesOk}
+use Rattle.ranges.proofs.Laws.{both-first, both-second, both-true}
+use Rattle.octets.specs.FirstToLast.{scan}
+use Rattle.octets.proofs.FirstToLast.{faults, empty, nowhere}
+use Rattle.factors.specs.Metal.{metalOk}
+use Rattle.factors.specs.Answers.{pipeOk}
+use Rattle.factors.specs.declared.Prover.{Prover}
+use Rattle.group.specs.Mean.{meanOf}
+use Rattle.group.specs.Repeatability.{groupAt, firstGroup}
+use Rattle.report.specs.Record.{listOf}
+use Rattle.report.specs.Judged.{reportOf}
+use Rattle.report.specs.declared.Report.{Report}
+use Rattle.run.specs.Record.{runAt, fieldsOk}
+use Rattle.run.specs.Figures.{figuresOf}
+use Rattle.run.specs.Answers.{proverOk, figuresFault}
+use Rattle.proving.specs.Judging.{runsIn, sizeOk, settingsFault, recordFault, runFault, inputFault}
+use Rattle.proving.specs.Job.{factorAt, listed, factorsOf, firstFive, groupFault, placeFound, fiveAt, reportAt, jobOf}
+use Rattle.proving.proofs.Laws.{listed-value, listed-length}
+use Rattle.draw.specs.Fill.{fillAt, fieldsOk as fillFieldsOk}
+use Rattle.draw.specs.Passes.{fillsIn, lengthOk, passCount, passVolume, volumesTo, volumesOf}
+use Rattle.draw.specs.Base.{barrelsOf, baseFrom}
+use Rattle.draw.specs.Answers.{recordFault as recordFaultOfFill, fillFault, drawFault, decidedBy, unless, drawOf}
+use Rattle.draw.specs.declared.BaseVolume.{BaseVolume}
+use Rattle.draw.proofs.Volumes.{length-volumes}
+use Rattle.promises.specs.Proving.{InputWithin, FiguresWithin, Acceptable, Used}
+use Rattle.promises.specs.WaterDraw as draw
+use Rattle.promises.proofs.Groups.{apart, Least, group-listed, first-least, some-found}
+
+not-zero : (n : ℕ) → not (eqb n 0) ≡ true → n ≡ 0 → ⊥
+not-zero n is zero-is = apart (sym is ∙ ap not (eq-eqb n 0 zero-is))
+
+-- where a fault was none, each of its two parts is
+parted : (f g : Fault) → orElse f g ≡ fine → (f ≡ fine) × (g ≡ fine)
+parted f g is = (orElse-fine-first f g is, orElse-fine-next f g is)
+
+joined : {f g : Fault} → f ≡ fine → g ≡ fine → orElse f g ≡ fine
+joined {f} {g} p q = orElse-next g p ∙ q
+
+group-found : (o : Option ℕ) → groupFault o ≡ fine → o ≡ some (placeFound o)
+group-found none is = cc
+group-found (some at) is = refl
+
+group-fine : (o : Option ℕ) → (o ≡ none → ⊥) → groupFault o ≡ fine
+group-fine none is = absurd (is refl)
+group-fine (some at) is = refl
+
+module _ (prover : Prover) (k limit : ℕ) (s : List ℕ) where
+  -- judging finds nothing exactly when the input and each run's figures are within limits
+  input-within : inputFault prover k limit s ≡ fine → InputWithin prover k limit s
+  unfolding inputFault settingsFault sizeOk recordFault runsIn
+  input-within clear =
+      let settings-part = parted (settingsFault prover k limit (length s)) _ clear in
+      let records-part = parted (scan (recordFault s) (length s / 32) 0) _ (settings-part .1) in
+      let from1 = parted (demand (sizeOk (length s)) 1) _ (settings-part .0) in
+      let from3 = parted (demand (proverOk prover) 3) _ (from1 .1) in
+      let size = demand-was (sizeOk (length s)) 1 (from1 .0) in
+      let last = demand-was (kFactorOk k && limitOk limit) 4 (from3 .1) in
+      let each : (i : ℕ) → i < length s / 32 → recordFault s i ≡ fine = λ i h. empty faults (recordFault s) (length s / 32) 0 (records-part .0) i (omega arith) (omega arith) in
+      record {
+        whole = eqb-true (length s % 32) 0 (both-first (eqb (length s % 32) 0) _ size);
+        runs = both-second (eqb (length s % 32) 0) _ size;
+        settings = demand-was (proverOk prover) 3 (from3 .0);
+        kFactor = both-first (kFactorOk k) _ last;
+        limits = both-second (kFactorOk k) _ last;
+        fields = λ i h. demandAt-was _ 5 (i + 1) (parted _ _ (each i h) .0);
+        unnamed = λ i h. demandAt-was _ 2 (i + 1) (parted (demandAt (fieldsOk (runAt s (32 * i))) 5 (i + 1)) _ (each i h) .1);
+      }
+
+  figures-within : inputFault prover k limit s ≡ fine → FiguresWithin prover k s
+  unfolding inputFault runFault figuresFault
+  figures-within clear =
+      let runs-part = orElse-fine-next (scan (recordFault s) (runsIn s) 0) _ (orElse-fine-next (settingsFault prover k limit (length s)) _ clear) in
+      let each : (i : ℕ) → i < runsIn s → runFault prover k s i ≡ fine = λ i h. empty faults (runFault prover k s) (runsIn s) 0 runs-part i (omega arith) (omega arith) in
+      record {
+        volume = λ i h. demandAt-was _ 7 (i + 1) (parted _ _ (each i h) .0);
+        factor = λ i h. demandAt-was _ 8 (i + 1) (parted (demandAt (volumeOk (figuresOf prover k (runAt s (32 * i)) .indicated)) 7 (i + 1)) _ (each i h) .1);
+      }
+
+  within-clear : InputWithin prover k limit s → FiguresWithin prover k s → inputFault prover k limit s ≡ fine
+  unfolding inputFault settingsFault sizeOk recordFault runFault figuresFault runsIn
+  within-clear input figures =
+      joined
+      (joined (demand-holds 1 (both-true (eq-eqb (length s % 32) 0 (input .whole)) (input .runs))) (joined (demand-holds 3 (input .settings)) (demand-holds 4 (both-true (input .kFactor) (input .limits)))))
+      (joined
+      (nowhere faults (recordFault s) (length s / 32) 0 (λ i _ h. let b : i < length s / 32 = omega arith in joined (demandAt-holds 5 (i + 1) (input .fields i b)) (demandAt-holds 2 (i + 1) (input .unnamed i b))))
+      (nowhere faults (runFault prover k s) (length s / 32) 0 (λ i _ h. let b : i < length s / 32 = omega arith in joined (demandAt-holds 7 (i + 1) (figures .volume i b)) (demandAt-holds 8 (i + 1) (figures .factor i b)))))
+
+  factor-values : (i : ℕ) → i < length (factorsOf prover k s) → getD (factorsOf prover k s) i 0 ≡ factorAt prover k s i
+  unfolding factorsOf
+  factor-values i h = listed-value (factorAt prover k s) (runsIn s) 0 i (omega (arith, listed-length (factorAt prover k s) (runsIn s) 0)) ∙ ap (factorAt prover k s) (omega arith)
+
+  factor-count : length (factorsOf prover k s) ≡ runsIn s
+  unfolding factorsOf
+  factor-count = listed-length (factorAt prover k s) (runsIn s) 0
+
+  -- the report's five are the factors of the five runs
+  five-listed : (at : ℕ) → at + 5 ≤ runsIn s → listOf (fiveAt (factorsOf prover k s) at) ≡ listed (factorAt prover k s) 5 at
+  unfolding listOf fiveAt listed
+  five-listed at room = λ i. each at at (omega arith) refl i ∷ each (at + 1) (at + 1) (omega arith) refl i ∷ each (at + 2) (at + 1 + 1) (omega arith) (omega arith) i ∷ each (at + 3) (at + 1 + 1 + 1) (omega arith) (omega arith) i ∷ each (at + 4) (at + 1 + 1 + 1 + 1) (omega arith) (omega arith) i ∷ []
+    where
+      each : (j m : ℕ) → j < runsIn s → j ≡ m → getD (factorsOf prover k s) j 0 ≡ factorAt prover k s m
+      each j m h same = factor-values j (omega (arith, factor-count)) ∙ ap (factorAt prover k s) same
+
+  module _ (request size : ℕ) where
+    abbrev asking : Fault
+    asking = orElse (demand (eqb size 32) 14) (orElse (demand (not (eqb request 0)) 22) (orElse (inputFault prover k limit s) (groupFault (firstFive prover k limit s))))
+
+    abbrev report : Report
+    report = reportAt request prover k s (placeFound (firstFive prover k limit s))
+
+    -- what a job that is done has been judged by
+    record Cleared (r : Report) : Type 0 where
+      buffer : size ≡ 32
+      asked : request ≡ 0 → ⊥
+      input : inputFault prover k limit s ≡ fine
+      place : ℕ
+      group : firstFive prover k limit s ≡ some place
+      is : r ≡ reportAt request prover k s place
+
+    cleared : {r : Report} → jobOf request prover k limit s size ≡ done r → Cleared r
+    unfolding jobOf
+    cleared is =
+        let clear = judged-was asking report is in
+        let from14 = parted (demand (eqb size 32) 14) _ clear in
+        let from22 = parted (demand (not (eqb request 0)) 22) _ (from14 .1) in
+        let rest = parted (inputFault prover k limit s) _ (from22 .1) in
+        record {
+          buffer = eqb-true size 32 (demand-was (eqb size 32) 14 (from14 .0));
+          asked = not-zero request (demand-was (not (eqb request 0)) 22 (from22 .0));
+          input = rest .0;
+          place = placeFound (firstFive prover k limit s);
+          group = group-found (firstFive prover k limit s) (rest .1);
+          is = sym (judged-done asking report is);
+        }
+
+    least-five : (place : ℕ) → firstFive prover k limit s ≡ some place → Least (factorAt prover k s) (factorsOf prover k s) factor-values 5 limit place
+    unfolding firstFive
+    least-five place is = first-least (factorAt prover k s) (factorsOf prover k s) factor-values 5 limit is
+
+    -- 'A job is accepted exactly when ..': only then,
+    pub accepted-only-when : {r : Report} → jobOf request prover k limit s size ≡ done r → (size ≡ 32) × (request ≡ 0 → ⊥) × Acceptable prover k limit s
+    accepted-only-when is =
+        let c = cleared is in
+        let least = least-five (c .place) (c .group) in (
+          c .buffer,
+          c .asked,
+          record {
+            input = input-within (c .input);
+            figures = figures-within (c .input);
+            place = c .place;
+            five = record { room = omega (arith, least .room, factor-count); meet = least .meet };
+          },
+        )
+
+    -- and always then
+    pub accepted-when : size ≡ 32 → (request ≡ 0 → ⊥) → Acceptable prover k limit s → (r : Report) × (jobOf request prover k limit s size ≡ done r)
+    unfolding jobOf firstFive
+    accepted-when buffer asked ok = (
+      report,
+      judged-fine report
+          (joined (demand-holds 14 (eq-eqb size 32 buffer))
+          (joined (demand-holds 22 (ap not (ne-eqb request 0 asked)))
+          (joined (within-clear (ok .input) (ok .figures))
+          (group-fine (firstGroup limit 5 (factorsOf prover k s)) (some-found (factorAt prover k s) (factorsOf prover k s) factor-values 5 limit (ok .place) (omega (arith, ok .five .room, factor-count)) (ok .five .meet)))))),
+    )
+
+    -- 'The first such group is the one used.' Its mean is the job's factor.
+    pub first-is-used : {r : Report} → jobOf request prover k limit s size ≡ done r → Used request prover k limit s r
+    unfolding reportAt reportOf
+    first-is-used {r} is =
+        let c = cleared is in
+        let least = least-five (c .place) (c .group) in
+        let room : c .place + 5 ≤ runsIn s = omega (arith, least .room, factor-count) in
+        record {
+          place = c .place;
+          five = record { room = room; meet = least .meet };
+          none-before = λ j h meets. apart (sym (meets .meet) ∙ least .earlier j h);
+          number = ap (λ (q : Report). q .number) (c .is);
+          runs = ap (λ (q : Report). q .runs) (c .is);
+          first = ap (λ (q : Report). q .first) (c .is);
+          factors = ap (λ (q : Report). listOf (q .factors)) (c .is) ∙ five-listed (c .place) room;
+          factor = ap (λ (q : Report). q .factor) (c .is) ∙ ap meanOf (five-listed (c .place) room);
+        }
+
+-- ---- the water draw
+
+module _ (prover : Prover) (s : List ℕ) where
+  fills-within : drawFault prover s ≡ fine → draw.InputWithin prover s
+  unfolding drawFault fillFault recordFaultOfFill lengthOk
+  fills-within clear =
+      let from1 = parted (demand (lengthOk s) 1) _ clear in
+      let from3 = parted (demand (metalOk (prover .metal) && pipeOk (prover .pipe)) 3) _ (from1 .1) in
+      let records-part = parted (scan (fillFault s) (fillsIn s) 0) _ (from3 .1) in
+      let size = demand-was (lengthOk s) 1 (from1 .0) in
+      let settings = demand-was (metalOk (prover .metal) && pipeOk (prover .pipe)) 3 (from3 .0) in
+      let each : (i : ℕ) → i < fillsIn s → fillFault s i ≡ fine = λ i h. empty faults (fillFault s) (fillsIn s) 0 (records-part .0) i (omega arith) (omega arith) in
+      record {
+        whole = eqb-true (length s % 32) 0 (both-first (eqb (length s % 32) 0) _ size);
+        fills = both-second (eqb (length s % 32) 0) _ size;
+        metal = both-first (metalOk (prover .metal)) _ settings;
+        pipe = both-second (metalOk (prover .metal)) _ settings;
+        fields = λ i h. demandAt-was _ 5 (i + 1) (parted _ _ (parted (recordFaultOfFill s i) _ (each i h) .0) .0);
+        unnamed = λ i h. demandAt-was _ 2 (i + 1) (parted (demandAt (fillFieldsOk (fillAt s i)) 5 (i + 1)) _ (parted (recordFaultOfFill s i) _ (each i h) .0) .1);
+        rule = λ i h. demandAt-was _ 6 (i + 1) (parted (recordFaultOfFill s i) _ (each i h) .1);
+        passes = demand-was (passesOk (passCount s)) 1 (records-part .1);
+      }
+
+  fills-clear : draw.InputWithin prover s → drawFault prover s ≡ fine
+  unfolding drawFault fillFault recordFaultOfFill lengthOk
+  fills-clear input =
+      joined (demand-holds 1 (both-true (eq-eqb (length s % 32) 0 (input .whole)) (input .fills)))
+      (joined (demand-holds 3 (both-true (input .metal) (input .pipe)))
+      (joined
+      (nowhere faults (fillFault s) (fillsIn s) 0 (λ i _ h. let b : i < fillsIn s = omega arith in joined (joined (demandAt-holds 5 (i + 1) (input .fields i b)) (demandAt-holds 2 (i + 1) (input .unnamed i b))) (demandAt-holds 6 (i + 1) (input .rule i b))))
+      (demand-holds 1 (input .passes))))
+
+  volume-count : length (volumesOf prover s) ≡ passCount s
+  unfolding volumesOf
+  volume-count = length-volumes prover s (passCount s)
+
+  pass-values : (n i : ℕ) → i < n → getD (volumesTo prover s n) i 0 ≡ passVolume prover s (i + 1)
+  unfolding volumesTo
+  pass-values zero i h = absurd (omega arith)
+  pass-values (suc n) i h =
+      let long : length (volumesTo prover s n) ≡ n = length-volumes prover s n in
+      by-cases (decLt i n)
+      (λ less. List·getD-append (volumesTo prover s n) (passVolume prover s (suc n) ∷ []) 0 i (omega arith) ∙ pass-values n i less)
+      (λ last. let same : i ≡ length (volumesTo prover s n) = omega arith in ap (λ (m : ℕ). getD (volumesTo prover s n ++ (passVolume prover s (suc n) ∷ [])) m 0) same ∙ getD-append-seam (volumesTo prover s n) (passVolume prover s (suc n)) [] 0 ∙ ap (passVolume prover s) (omega arith))
+
+  volume-values : (i : ℕ) → i < length (volumesOf prover s) → getD (volumesOf prover s) i 0 ≡ draw.volumeAt prover s i
+  unfolding volumesOf draw.volumeAt
+  volume-values i h = pass-values (passCount s) i (omega (arith, length-volumes prover s (passCount s)))
+
+  abbrev decided : Told BaseVolume
+  decided = decidedBy (volumesOf prover s) (firstGroup 2 3 (volumesOf prover s))
+
+  -- what a draw that is done has been judged by
+  record Drew (b : BaseVolume) : Type 0 where
+    input : drawFault prover s ≡ fine
+    place : ℕ
+    group : firstGroup 2 3 (volumesOf prover s) ≡ some place
+    is : b ≡ baseFrom (groupAt 3 (volumesOf prover s) place) place
+
+  drew : {b : BaseVolume} → drawOf prover s ≡ done b → Drew b
+  unfolding drawOf
+  drew {b} is = by-fault (drawFault prover s) (firstGroup 2 3 (volumesOf prover s)) refl refl is
+    where
+      by-fault : (f : Fault) (o : Option ℕ) → drawFault prover s ≡ f → firstGroup 2 3 (volumesOf prover s) ≡ o → unless f (decidedBy (volumesOf prover s) o) ≡ done b → Drew b
+      by-fault fine none none-found group is = absurd (refused-not-done is)
+      by-fault fine (some at) none-found group is = record { input = none-found; place = at; group = group; is = sym (done-one is) }
+      by-fault (fault number at) o some-found group is = absurd (refused-not-done is)
+
+  abbrev LeastThree : ℕ → Type 0
+  LeastThree place = Least (draw.volumeAt prover s) (volumesOf prover s) volume-values 3 2 place
+
+  -- 'A job is accepted exactly when ..': only then,
+  pub draw-accepted-only-when : {b : BaseVolume} → drawOf prover s ≡ done b → draw.Acceptable prover s
+  draw-accepted-only-when is =
+      let d = drew is in
+      let least : LeastThree (d .place) = first-least (draw.volumeAt prover s) (volumesOf prover s) volume-values 3 2 (d .group) in
+      record { input = fills-within (d .input); place = d .place; three = record { room = omega (arith, least .room, volume-count); meet = least .meet } }
+
+  -- and always then
+  pub draw-accepted-when : draw.Acceptable prover s → (b : BaseVolume) × (drawOf prover s ≡ done b)
+  unfolding drawOf
+  draw-accepted-when ok =
+      by-place (firstGroup 2 3 (volumesOf prover s)) (some-found (draw.volumeAt prover s) (volumesOf prover s) volume-values 3 2 (ok .place) (omega (arith, ok .three .room, volume-count)) (ok .three .meet))
+    where
+      by-place : (o : Option ℕ) → (o ≡ none → ⊥) → (b : BaseVolume) × (unless (drawFault prover s) (decidedBy (volumesOf prover s) o) ≡ done b)
+      by-place none found = absurd (found refl)
+      by-place (some at) found = (baseFrom (groupAt 3 (volumesOf prover s) at) at, ap (λ (f : Fault). unless f (decidedBy (volumesOf prover s) (some at))) (fills-clear (ok .input)))
+
+  -- 'The first such group is the one used.' Its mean is the base volume.
+  pub draw-first-is-used : {b : BaseVolume} → drawOf prover s ≡ done b → draw.Used prover s b
+  unfolding baseFrom
+  draw-first-is-used {b} is =
+      let d = drew is in
+      let least : LeastThree (d .place) = first-least (draw.volumeAt prover s) (volumesOf prover s) volume-values 3 2 (d .group) in
+      let three = group-listed (draw.volumeAt prover s) (volumesOf prover s) volume-values 3 (d .place) (least .room) in
+      record {
+        place = d .place;
+        three = record { room = omega (arith, least .room, volume-count); meet = least .meet };
+        none-before = λ j h meets. apart (sym (meets .meet) ∙ least .earlier j h);
+        base = ap (λ (q : BaseVolume). q .base) (d .is) ∙ ap meanOf three;
+        barrels = ap (λ (q : BaseVolume). q .barrels) (d .is) ∙ ap (λ (xs : List ℕ). barrelsOf (meanOf xs)) three;
+        first = ap (λ (q : BaseVolume). q .first) (d .is);
+      }

@@ -1,0 +1,11 @@
+pub mod Figures
+pub mod Endings
+pub mod Demand1
+pub mod Entries
+pub mod Groups
+pub mod Demand2
+pub mod Formulas
+pub mod Demand3
+pub mod Answers
+pub mod OneOutcome
+pub mod Keeper

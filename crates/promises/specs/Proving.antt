@@ -1,0 +1,56 @@
+-- Demand 2, for a proving: 'A job is accepted exactly when its input and each run's own figures are within limits and five consecutive
+-- runs .. meet the repeatability limit. The first such group is the one used.' The words of that sentence, one record each.
+use mathlib.Core.Path.{_≡_}
+use mathlib.Core.Bool.{true}
+use mathlib.Core.List.{List}
+use Prim.Native.Nat.{ℕ, _+_, _*_, _%_, _≤_, _<_}
+use lib.ListN.{length}
+use Rattle.ranges.specs.Table.{runsOk, kFactorOk, limitOk, volumeOk, runFactorOk}
+use Rattle.factors.specs.declared.Prover.{Prover}
+use Rattle.group.specs.Mean.{meanOf}
+use Rattle.group.specs.Repeatability.{qualifies}
+use Rattle.report.specs.Record.{listOf}
+use Rattle.report.specs.declared.Report.{Report}
+use Rattle.run.specs.Record.{runAt, fieldsOk, unnamedOk}
+use Rattle.run.specs.Figures.{figuresOf}
+use Rattle.run.specs.Answers.{proverOk}
+use Rattle.proving.specs.Judging.{runsIn}
+use Rattle.proving.specs.Job.{factorAt, listed}
+
+-- 'its input .. within limits': 5 to 20 whole records, the settings, K, the limit, and of every record its fields and its unnamed bytes
+pub record InputWithin (prover : Prover) (k limit : ℕ) (s : List ℕ) : Type 0 where
+  pub whole : length s % 32 ≡ 0
+  pub runs : runsOk (runsIn s) ≡ true
+  pub settings : proverOk prover ≡ true
+  pub kFactor : kFactorOk k ≡ true
+  pub limits : limitOk limit ≡ true
+  pub fields : (i : ℕ) → i < runsIn s → fieldsOk (runAt s (32 * i)) ≡ true
+  pub unnamed : (i : ℕ) → i < runsIn s → unnamedOk s (32 * i) ≡ true
+
+-- 'each run's own figures are within limits': its indicated volume and its factor
+pub record FiguresWithin (prover : Prover) (k : ℕ) (s : List ℕ) : Type 0 where
+  pub volume : (i : ℕ) → i < runsIn s → volumeOk (figuresOf prover k (runAt s (32 * i)) .indicated) ≡ true
+  pub factor : (i : ℕ) → i < runsIn s → runFactorOk (figuresOf prover k (runAt s (32 * i)) .factor) ≡ true
+
+-- 'five consecutive runs .. meet the repeatability limit': there are five from place `at` on (places from 0), and their factors qualify
+pub record FiveMeet (prover : Prover) (k limit : ℕ) (s : List ℕ) (at : ℕ) : Type 0 where
+  pub room : at + 5 ≤ runsIn s
+  pub meet : qualifies limit (listed (factorAt prover k s) 5 at) ≡ true
+
+-- all that the job's acceptance takes, beside a 32-byte buffer and a request number that is not zero
+pub record Acceptable (prover : Prover) (k limit : ℕ) (s : List ℕ) : Type 0 where
+  pub input : InputWithin prover k limit s
+  pub figures : FiguresWithin prover k s
+  pub place : ℕ
+  pub five : FiveMeet prover k limit s place
+
+-- 'The first such group is the one used': it meets the limit, none before it does, and the report is of it
+pub record Used (request : ℕ) (prover : Prover) (k limit : ℕ) (s : List ℕ) (r : Report) : Type 0 where
+  pub place : ℕ
+  pub five : FiveMeet prover k limit s place
+  pub none-before : (j : ℕ) → j < place → FiveMeet prover k limit s j → ⊥
+  pub number : r .number ≡ request
+  pub runs : r .runs ≡ runsIn s
+  pub first : r .first ≡ place + 1
+  pub factors : listOf (r .factors) ≡ listed (factorAt prover k s) 5 place
+  pub factor : r .factor ≡ meanOf (listed (factorAt prover k s) 5 place)
