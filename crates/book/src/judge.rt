@@ -8,6 +8,7 @@ ghost use Rattle.book.specs.Sound.{isSound};
 use crate::Book;
 use crate::Entry;
 use crate::Handout;
+use crate::SHIPPERS;
 use crate::Withdrawal;
 use crate::queue;
 use crate::sound;
@@ -43,7 +44,7 @@ pub(crate) fn judge_request(book: Book, shipper: u8, number: u32) -> Entry
     if !sound::is_sound(book) {
         return Entry::Refused(Refusal::BookNotSound);
     }
-    if 4 <= shipper {
+    if SHIPPERS <= shipper {
         return Entry::Refused(Refusal::UnknownShipper);
     }
     if number == 0 {
@@ -58,7 +59,7 @@ pub(crate) fn judge_withdrawal(book: Book, shipper: u8, number: u32) -> Withdraw
     if !sound::is_sound(book) {
         return Withdrawal::Refused(Refusal::BookNotSound);
     }
-    if 4 <= shipper {
+    if SHIPPERS <= shipper {
         return Withdrawal::Refused(Refusal::UnknownShipper);
     }
     if number == 0 {
@@ -80,14 +81,14 @@ fn find_next(book: Book) -> u8
     ensures { λ r. ⌜ r ≡ nextShipper book ⌝ }
 {
     let lines = book.lines;
-    let mut shipper = (book.last + 1) % 4;
+    let mut shipper = (book.last + 1) % SHIPPERS;
     let mut tries: usize = 3;
     while 0 < tries {
         let at = shipper as usize;
         if 0 < lines[at].count {
             return shipper;
         }
-        shipper = (shipper + 1) % 4;
+        shipper = (shipper + 1) % SHIPPERS;
         tries -= 1;
     }
     shipper

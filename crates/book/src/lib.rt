@@ -19,10 +19,13 @@ mod sound;
 
 pub use sound::is_sound;
 
+// Shippers 0 to 3.
+const SHIPPERS: u8 = 4;
+
 // The requests of one shipper that wait, oldest first. Sixteen places for everybody, so that no
 // agreement about places changes the record.
 pub struct Line {
-    pub numbers: [u32; 16],
+    pub numbers: [u32; Book::PLACES],
     pub count: usize,
 }
 
@@ -46,7 +49,7 @@ impl Book {
         ensures { λ r. ⌜ r ≡ emptyBook ⌝ }
     {
         let line = Line {
-            numbers: [0; 16],
+            numbers: [0; Book::PLACES],
             count: 0,
         };
         Book {

@@ -6,7 +6,10 @@ ghost use Prim.Native.Nat.{_+_, _<_, _≤_};
 ghost use lib.ListN.{drop};
 ghost use Rattle.book.specs.Line.{waiting, lineOf, areZero};
 ghost use Rattle.book.specs.Place.{placeOf, givenUp};
+use crate::Book;
 use crate::Line;
+
+const LAST_PLACE: usize = Book::PLACES - 1;
 
 // The place of a number among those waiting at or after a place; the count where it isn't there.
 pub(crate) fn place(line: Line, from: usize, number: u32) -> usize
@@ -43,9 +46,9 @@ pub(crate) fn shorten(line: Line, at: usize) -> Line
     ensures { λ r. ⌜ r ≡ lineOf (givenUp at (waiting line)) ⌝ }
 {
     let numbers = line.numbers;
-    let mut rest = [0u32; 16];
+    let mut rest = [0u32; Book::PLACES];
     let mut i = 0;
-    while i < 15 {
+    while i < LAST_PLACE {
         rest[i] = if i < at { numbers[i] } else { numbers[i + 1] };
         i += 1;
     }

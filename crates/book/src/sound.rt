@@ -8,6 +8,7 @@ ghost use Rattle.book.specs.Line.{waiting, areProper, areZero};
 ghost use Rattle.book.specs.Sound.{isLineSound, areLinesSound, isSound};
 use crate::Book;
 use crate::Line;
+use crate::SHIPPERS;
 use crate::queue;
 
 // Waiting numbers are non-zero and differ within a shipper.
@@ -38,7 +39,7 @@ fn are_unused_zero(line: Line) -> bool
 {
     let numbers = line.numbers;
     let mut i = line.count;
-    while i < 16 {
+    while i < Book::PLACES {
         if numbers[i] != 0 {
             return false;
         }
@@ -95,7 +96,7 @@ pub fn is_sound(book: Book) -> bool
     ensures { λ r. ⌜ r ≡ isSound book ⌝ }
 {
     if are_lines_sound(book) {
-        count_commons_used(book) <= Book::COMMONS && book.last < 4
+        count_commons_used(book) <= Book::COMMONS && book.last < SHIPPERS
     } else {
         false
     }

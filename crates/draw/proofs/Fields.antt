@@ -79,19 +79,19 @@ scaled certified (negsuc k) low ok =
     let h : k ≤ 9999 = leb-true k 9999 (sym (and-true (leb k 9999)) ∙ ok) in
     record { above = 10000 - suc k; is = below 10000 (suc k) (omega arith); high = omega arith; sum = ap natAbs (below certified (suc k) (omega arith)) ∙ omega arith }
 
--- the machine's sum and cast give that count
-module _ {certified : ℕ} {z : ℤ} (back : toZ w16 (ofZ w16 z) ≡ z) (s : Scale certified z) where
-  sum-is : toZ w16 (ofZ w16 z) +ℤ pos 10000 ≡ pos (s .above)
-  sum-is = ap (λ (x : ℤ). x +ℤ pos 10000) back ∙ s .is
+-- the machine's sum and cast give a count from -k on
+module _ (k : ℕ) {z : ℤ} {above : ℕ} (back : toZ w16 (ofZ w16 z) ≡ z) (is : z +ℤ pos k ≡ pos above) (high : above ≤ 32767) where
+  sum-is : toZ w16 (ofZ w16 z) +ℤ pos k ≡ pos above
+  sum-is = ap (λ (x : ℤ). x +ℤ pos k) back ∙ is
 
-  pub sum-fits : SFits w16 (toZ w16 (ofZ w16 z) +ℤ pos 10000)
-  sum-fits = subst (λ (x : ℤ). SFits w16 x) (sym sum-is) (record { sfits = omega (arith, s .high) })
+  pub sum-fits : SFits w16 (toZ w16 (ofZ w16 z) +ℤ pos k)
+  sum-fits = subst (λ (x : ℤ). SFits w16 x) (sym sum-is) (record { sfits = omega arith })
 
-  pub cast-is : toZ w16 (ofZ w16 (toZ w16 (ofZ w16 z) +ℤ pos 10000)) ≡ pos (s .above)
-  cast-is = toZ-ofZ w16 (toZ w16 (ofZ w16 z) +ℤ pos 10000) sum-fits ∙ sum-is
+  pub cast-is : toZ w16 (ofZ w16 (toZ w16 (ofZ w16 z) +ℤ pos k)) ≡ pos above
+  cast-is = toZ-ofZ w16 (toZ w16 (ofZ w16 z) +ℤ pos k) sum-fits ∙ sum-is
 
-  pub cast-fits : T (nonNeg (toZ w16 (ofZ w16 (toZ w16 (ofZ w16 z) +ℤ pos 10000)))) × Fits w64 (natAbs (toZ w16 (ofZ w16 (toZ w16 (ofZ w16 z) +ℤ pos 10000))))
-  cast-fits = subst (λ (x : ℤ). T (nonNeg x) × Fits w64 (natAbs x)) (sym cast-is) (tt, record { fits = omega (arith, s .high) })
+  pub cast-fits : T (nonNeg (toZ w16 (ofZ w16 (toZ w16 (ofZ w16 z) +ℤ pos k)))) × Fits w64 (natAbs (toZ w16 (ofZ w16 (toZ w16 (ofZ w16 z) +ℤ pos k))))
+  cast-fits = subst (λ (x : ℤ). T (nonNeg x) × Fits w64 (natAbs x)) (sym cast-is) (tt, record { fits = omega arith })
 
 -- the pass rule, by the record before
 pub rule-first : (s : List ℕ) {i : ℕ} {fill : FillRecord} → i ≡ 0 → fill ≡ fillAt s i → eqb (fill .pass) 1 ≡ ruleOk s i

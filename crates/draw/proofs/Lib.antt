@@ -5,3 +5,4 @@ pub mod Volumes
 pub mod Outcome
 pub mod Rule
 pub mod Figures
+pub mod Sums

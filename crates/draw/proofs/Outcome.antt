@@ -1,16 +1,19 @@
--- The answers lose nothing: two that tell the same are the same. And what the passes' answer says to the draw.
-use mathlib.Core.Path.{_≡_, sym, ap, _∙_}
+-- The answers lose nothing: two that tell the same are the same. What the passes' answer says to the draw. And when a draw is accepted.
+use mathlib.Core.Path.{_≡_, refl, sym, ap, _∙_}
 use mathlib.Core.List.{List}
+use mathlib.Core.Option.{Option, none, some}
 use Prim.Native.Nat.{ℕ, _≤_}
 use native.Mathlib.Omega.{arith}
 use lib.ListN.{length, take}
 use Rattle.refusals.specs.Table.{numberOf, recordOf}
-use Rattle.refusals.specs.Told.{Told, done, refused, Fault, fine}
+use Rattle.refusals.specs.Told.{Told, done, refused, Fault, fine, fault}
 use Rattle.refusals.specs.declared.Refusal.{Refusal}
 use Rattle.refusals.proofs.Laws.{refusal-one, done-one, refused-number, refused-record}
-use Rattle.group.specs.Repeatability.{firstGroup}
+use Rattle.group.specs.Repeatability.{groupAt, firstGroup}
+use Rattle.group.proofs.Groups.{FirstGroup, first-found, found-first}
 use Rattle.factors.specs.declared.Prover.{Prover}
 use Rattle.draw.specs.Passes.{passCount, volumesTo, volumesOf, zerosAfter}
+use Rattle.draw.specs.Base.{baseFrom}
 use Rattle.draw.specs.Answers.{toldFill, toldPasses, toldDraw, drawFault, passesOf, heldFor, decidedBy, unless, drawOf}
 use Rattle.draw.specs.declared.FillAnswer.{FillAnswer}
 use Rattle.draw.specs.declared.FillAnswer.the-variants.{Figures as Worked, Refused as Fill·Refused}
@@ -82,3 +85,38 @@ pub draw-refused : (prover : Prover) (s : List ℕ) {answer : Counted} {refusal 
 unfolding drawOf passesOf
 draw-refused prover s tells is =
     sym (ap (λ (f : Fault). unless f (decidedBy (volumesOf prover s) (firstGroup 2 3 (volumesOf prover s)))) (judged-refused (drawFault prover s) (passCount s) (sym tells ∙ ap toldPasses is)))
+
+-- ---- when a draw is accepted
+
+unless-done : {A : Type 0} (f : Fault) (next : Told A) {x : A} → unless f next ≡ done x → (f ≡ fine) × (next ≡ done x)
+unless-done fine next is = (refl, is)
+unless-done (fault number at) next is = absurd (never (sym is))
+
+record Chosen (volumes : List ℕ) (place : Option ℕ) (base : BaseVolume) : Type 0 where
+  at : ℕ
+  here : place ≡ some at
+  gives : base ≡ baseFrom (groupAt 3 volumes at) at
+
+chosen : (volumes : List ℕ) (place : Option ℕ) {base : BaseVolume} → decidedBy volumes place ≡ done base → Chosen volumes place base
+chosen volumes none is = absurd (never (sym is))
+chosen volumes (some at) is = record { at = at; here = refl; gives = done-one (sym is) }
+
+-- demand 2: judging found nothing, and the base volume is that of the first three consecutive passes that qualify
+pub record Accepted (prover : Prover) (s : List ℕ) (base : BaseVolume) : Type 0 where
+  pub nothing : drawFault prover s ≡ fine
+  pub at : ℕ
+  pub first : FirstGroup 2 3 (volumesOf prover s) at
+  pub gives : base ≡ baseFrom (groupAt 3 (volumesOf prover s) at) at
+
+module _ (prover : Prover) (s : List ℕ) {base : BaseVolume} where
+  pub accepted : drawOf prover s ≡ done base → Accepted prover s base
+  unfolding drawOf
+  accepted is =
+      let parts = unless-done (drawFault prover s) (decidedBy (volumesOf prover s) (firstGroup 2 3 (volumesOf prover s))) is in
+      let by : Chosen (volumesOf prover s) (firstGroup 2 3 (volumesOf prover s)) base = chosen (volumesOf prover s) (firstGroup 2 3 (volumesOf prover s)) (parts .1) in
+      record { nothing = parts .0; at = by .at; first = first-found 2 3 (volumesOf prover s) (by .here); gives = by .gives }
+
+  -- and exactly then
+  pub accepted-so : Accepted prover s base → drawOf prover s ≡ done base
+  accepted-so by =
+      sym (draw-decided prover s (by .nothing) refl (sym (ap (decidedBy (volumesOf prover s)) (found-first 2 3 (volumesOf prover s) (by .first)) ∙ ap done (sym (by .gives)))))

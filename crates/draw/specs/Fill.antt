@@ -52,7 +52,7 @@ unnamedOk s i = zeroBetween s (32 * i + 17) (32 * i + 18) && zeroBetween s (32 *
 
 -- passes 'never go back or skip', and 'all fills of a pass carry one pressure'
 unfoldable pub follows : FillRecord → FillRecord → Bool
-follows before fill = eqb (fill .pass) (before .pass) && eqb (fill .pressure) (before .pressure) || eqb (fill .pass) (before .pass + 1)
+follows before fill = (eqb (fill .pass) (before .pass) && eqb (fill .pressure) (before .pressure)) || eqb (fill .pass) (before .pass + 1)
 
 -- 'Passes start at 1', and each later fill follows the one before it
 unfoldable pub ruleOk : List ℕ → ℕ → Bool

@@ -44,6 +44,7 @@ sumTo f (suc n) = sumTo f n + f n
 unfoldable pub passSum : Metal → List ℕ → ℕ → ℕ
 passSum metal s pass = sumTo (drawnFor metal s pass) (fillsIn s)
 
+-- the pressure of the fill at a place, and 0 where there is no place
 abbrev pub pressureAt : List ℕ → Option ℕ → ℕ
 pressureAt s none = 0
 pressureAt s (some i) = fillAt s i .pressure

@@ -5,7 +5,7 @@ use factors::Metal;
 use factors::Places;
 ghost use mathlib.Core.Path.{_≡_};
 ghost use mathlib.Core.Bool.{true};
-ghost use Prim.Native.Nat.{_<_, _≤_};
+ghost use Prim.Native.Nat.{_<_};
 ghost use Rattle.factors.specs.Metal.{metalOk};
 ghost use Rattle.draw.specs.Fill.{fillAt, fieldsOk, unnamedOk, follows, ruleOk};
 ghost use Rattle.draw.specs.Drawn.{adjusted, figuresOf};

@@ -8,7 +8,6 @@ use refusals::Refusal;
 ghost use mathlib.Core.Path.{_≡_};
 ghost use Prim.Native.Nat.{_≤_};
 ghost use lib.ListN.{length};
-ghost use Rattle.group.specs.Mean.{meanOf};
 ghost use Rattle.group.specs.Repeatability.{firstGroup};
 ghost use Rattle.draw.specs.Base.{barrelsOf, baseFrom};
 ghost use Rattle.draw.specs.Answers.{toldFill, toldPasses, toldDraw, fillOf, passesOf, heldFor, decidedBy, drawOf};

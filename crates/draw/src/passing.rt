@@ -6,13 +6,13 @@ use factors::Places;
 use factors::Prover;
 ghost use mathlib.Core.Path.{_≡_};
 ghost use mathlib.Core.Bool.{true};
-ghost use Prim.Native.Nat.{_<_, _≤_};
+ghost use Prim.Native.Nat.{ℕ, _<_, _≤_};
 ghost use Rattle.refusals.specs.Told.{fine};
 ghost use Rattle.ranges.specs.Table.{pressureOk};
 ghost use Rattle.factors.specs.Answers.{pipeOk};
 ghost use Rattle.factors.specs.Metal.{metalOk};
 ghost use Rattle.draw.specs.Fill.{fillAt, fieldsOk};
-ghost use Rattle.draw.specs.Passes.{drawnFor, passSum, passPressure, correctedVolume, passVolume, volumesTo, zerosAfter};
+ghost use Rattle.draw.specs.Passes.{fillsIn, drawnFor, passSum, passPressure, correctedVolume, passVolume, volumesTo, zerosAfter};
 ghost use Rattle.draw.specs.Answers.{drawFault};
 
 // What the fill adds to a pass: the volume drawn, if it is a fill of that pass.
@@ -28,11 +28,10 @@ fn add_to_pass(metal: Metal, s: &[u8], pass: u8, i: usize) -> u64
 }
 
 // The sum of a pass's fills.
-fn add_up(prover: Prover, s: &[u8], pass: u8) -> u64
-    requires { ⌜ drawFault prover (now s) ≡ fine ⌝ }
-    ensures { λ r. ⌜ (r ≡ passSum (prover .metal) (now (s .entry)) pass) × (r ≤ 30000000000) ⌝ }
+fn add_up(metal: Metal, s: &[u8], pass: u8) -> u64
+    requires { ⌜ (metalOk metal ≡ true) × (fillsIn (now s) ≤ 60) × ((k : ℕ) → k < fillsIn (now s) → fieldsOk (fillAt (now s) k) ≡ true) ⌝ }
+    ensures { λ r. ⌜ (r ≡ passSum metal (now (s .entry)) pass) × (r ≤ 30000000000) ⌝ }
 {
-    let metal = prover.metal;
     let fills = s.len() / 32;
     let mut sum = 0;
     let mut i = 0;
@@ -44,8 +43,8 @@ fn add_up(prover: Prover, s: &[u8], pass: u8) -> u64
 }
 
 // The pressure of a pass: that of its first fill, since all carry one.
-fn find_pressure(prover: Prover, s: &[u8], pass: u8) -> u16
-    requires { ⌜ drawFault prover (now s) ≡ fine ⌝ }
+fn find_pressure(s: &[u8], pass: u8) -> u16
+    requires { ⌜ (fillsIn (now s) ≤ 60) × ((k : ℕ) → k < fillsIn (now s) → fieldsOk (fillAt (now s) k) ≡ true) ⌝ }
     ensures { λ r. ⌜ (r ≡ passPressure (now (s .entry)) pass) × (pressureOk r ≡ true) ⌝ }
 {
     let fills = s.len() / 32;
@@ -74,12 +73,9 @@ fn find_volume(prover: Prover, s: &[u8], pass: u8) -> u64
     requires { ⌜ drawFault prover (now s) ≡ fine ⌝ }
     ensures { λ r. ⌜ r ≡ passVolume prover (now (s .entry)) pass ⌝ }
 {
+    let metal = prover.metal;
     let pipe = prover.pipe;
-    correct(
-        pipe,
-        find_pressure(prover, s, pass),
-        add_up(prover, s, pass),
-    )
+    correct(pipe, find_pressure(s, pass), add_up(metal, s, pass))
 }
 
 // The volumes of the passes 1 to count, and zeros after them.

@@ -9,7 +9,7 @@ use borrow.Author.Tests.{le-leb, lt-ltb}
 use lib.IntN.{ℤ}
 use lib.ListN.{length}
 use Rattle.refusals.specs.Told.{Told, done, refused}
-use Rattle.refusals.proofs.Laws.{judged-fine, demand-holds, orElse-next, done-one}
+use Rattle.refusals.proofs.Laws.{judged-fine, demand-holds, orElse-next, done-one, refusal-one, refused-number, refused-record}
 use Rattle.ranges.specs.Table.{temperatureOk, coefficientOk, pressureOk, compressibilityOk}
 use Rattle.ranges.proofs.Laws.{both-true, within-high}
 use Rattle.exact.specs.Rounding.{rounded, _over_}
@@ -29,6 +29,13 @@ use Rattle.factors.proofs.Steel.{Warm, warm, parts, Loads, loads}
 pub told-value : (f : Factor) {v : ℕ} → told f ≡ done v → valueOrZero f ≡ v
 told-value (Value x) is = done-one is
 told-value (Refused why) is = let z : _≡_ {A = ℕ} 0 1 = cc in absurd (omega arith)
+
+-- `told` loses nothing
+pub told-one : (a b : Factor) → told a ≡ told b → a ≡ b
+told-one (Value x) (Value y) is = ap Value (done-one is)
+told-one (Value x) (Refused why) is = cc
+told-one (Refused why) (Value x) is = cc
+told-one (Refused why) (Refused other) is = ap Refused (refusal-one why other (refused-number {A = ℕ} is) (refused-record {A = ℕ} is))
 
 module _ (f : Factor) (places : Places) where
   pub cts-value : (metal : Metal) (t : ℤ) → told f ≡ ctsOf (digits places) metal t → metalOk metal ≡ true → temperatureOk t ≡ true → valueOrZero f ≡ rounded (digits places) (cts t (coefficientOf metal))

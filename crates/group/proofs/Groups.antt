@@ -63,6 +63,10 @@ group-of-used n [] (suc at) count h = rw (take-nil count)
 group-of-used n (x ∷ xs) (suc at) zero h = absurd (omega arith)
 group-of-used n (x ∷ xs) (suc at) (suc count) h = group-of-used n xs at count (omega arith)
 
+-- what a caller lends who keeps such an array: its part, as a group of the values used
+pub part-of-used : (n : ℕ) (xs : List ℕ) (at count : ℕ) → at + n ≤ count → take (at + n - at) (drop at xs) ≡ groupAt n (take count xs) at
+part-of-used n xs at count h = part-is-group n xs at ∙ sym (group-of-used n xs at count h)
+
 -- ---- the test
 
 pub qualifies-none : (limit : ℕ) (xs : List ℕ) → length xs ≡ 0 → qualifies limit xs ≡ false

@@ -11,23 +11,10 @@ use Rattle.ranges.specs.Table.{temperatureOk, pressureOk}
 use Rattle.ranges.specs.Within.{withinSigned}
 use Rattle.ranges.proofs.Laws.{within-high}
 use Rattle.refusals.specs.Told.{Told, done, refused, Fault, fine, fault, demand, orElse, judged}
-use Rattle.refusals.proofs.Laws.{refusal-one, done-one, refused-number, refused-record, judged-fine, judged-fault, orElse-next, orElse-first}
+use Rattle.refusals.proofs.Laws.{refusal-one, done-one, refused-number, refused-record, judged-fine, judged-fault, judged-was, judged-done, judged-refused, demand-was, orElse-next, orElse-first, orElse-fine-next}
 use Rattle.live.specs.declared.Live.{Live}
 use Rattle.live.specs.declared.Live.the-variants.{Whole, Refused}
 use Rattle.live.specs.Live.{tenthsOf, psiOf, psiOk, readingFault, temperatureFault, pressureFault, wholeOf, singleOf, liveOf, told}
-
--- what was refused was a fault, and a result came of none
-refused-fault : {A : Type 0} (f : Fault) (x : A) (n at : ℕ) → judged f x ≡ refused n at → f ≡ fault n at
-refused-fault fine x n at p = cc
-refused-fault (fault m b) x n at p = cc
-
-done-fine : {A : Type 0} (f : Fault) (x y : A) → judged f x ≡ done y → f ≡ fine
-done-fine fine x y p = refl
-done-fine (fault m b) x y p = cc
-
-done-value : {A : Type 0} (f : Fault) (x y : A) → judged f x ≡ done y → x ≡ y
-done-value fine x y p = cc
-done-value (fault m b) x y p = cc
 
 -- the pressure's range as the code has it
 psi-range : (z : ℤ) → withinSigned (pos 0) (pos 1500) z ≡ psiOk z
@@ -53,32 +40,24 @@ pressure-is x = ap (λ (ok : Bool). judged (readingFault x ok) (wholeOf 0 1 x)) 
 pub live-temperature : (t p : Float) {n at : ℕ} → temperatureSingle t ≡ refused n at → liveOf t p ≡ refused n at
 unfolding liveOf
 live-temperature t p {n} {at} is =
-    judged-fault _ (orElse-first (pressureFault p) (refused-fault (temperatureFault t) (tenthsOf t) n at (sym (temperature-is t) ∙ is)))
+    judged-fault _ (orElse-first (pressureFault p) (judged-refused (temperatureFault t) (tenthsOf t) (sym (temperature-is t) ∙ is)))
 
 module _ (t p : Float) {z : ℤ} (whole : temperatureSingle t ≡ done z) where
   temperature-fine : temperatureFault t ≡ fine
-  temperature-fine = done-fine (temperatureFault t) (tenthsOf t) z (sym (temperature-is t) ∙ whole)
+  temperature-fine = judged-was (temperatureFault t) (tenthsOf t) (sym (temperature-is t) ∙ whole)
 
   pub live-pressure : {n at : ℕ} → pressureSingle p ≡ refused n at → liveOf t p ≡ refused n at
   unfolding liveOf
   live-pressure {n} {at} is =
-      judged-fault _ (orElse-next (pressureFault p) temperature-fine ∙ refused-fault (pressureFault p) (psiOf p) n at (sym (pressure-is p) ∙ is))
+      judged-fault _ (orElse-next (pressureFault p) temperature-fine ∙ judged-refused (pressureFault p) (psiOf p) (sym (pressure-is p) ∙ is))
 
   pub live-done : {w : ℤ} → pressureSingle p ≡ done w → liveOf t p ≡ done (record { tenths = z; psi = w })
   unfolding liveOf
   live-done {w} is =
-      judged-fine _ (orElse-next (pressureFault p) temperature-fine ∙ done-fine (pressureFault p) (psiOf p) w (sym (pressure-is p) ∙ is))
-      ∙ (λ i. done (record { tenths = done-value (temperatureFault t) (tenthsOf t) z (sym (temperature-is t) ∙ whole) i; psi = done-value (pressureFault p) (psiOf p) w (sym (pressure-is p) ∙ is) i }))
+      judged-fine _ (orElse-next (pressureFault p) temperature-fine ∙ judged-was (pressureFault p) (psiOf p) (sym (pressure-is p) ∙ is))
+      ∙ (λ i. done (record { tenths = judged-done (temperatureFault t) (tenthsOf t) (sym (temperature-is t) ∙ whole) i; psi = judged-done (pressureFault p) (psiOf p) (sym (pressure-is p) ∙ is) i }))
 
 -- a pressure that was not refused is 0 to 1500, so that the cast to an unsigned number keeps it
-demand-fine : (t : Bool) (n : ℕ) → demand t n ≡ fine → t ≡ true
-demand-fine true n p = refl
-demand-fine false n p = cc
-
-after-fine : (f g : Fault) → orElse f g ≡ fine → g ≡ fine
-after-fine fine g p = p
-after-fine (fault n at) g p = cc
-
 pub record Unsigned (z : ℤ) : Type 0 where
   pub above : T (nonNeg z)
   pub small : natAbs z ≤ 1500
@@ -93,8 +72,8 @@ pub pressure-unsigned : (p : Float) {w : ℤ} → pressureSingle p ≡ done w �
 unfolding pressureFault readingFault
 pressure-unsigned p {w} is =
     let whole : judged (pressureFault p) (psiOf p) ≡ done w = sym (pressure-is p) ∙ is in
-    subst Unsigned (done-value (pressureFault p) (psiOf p) w whole)
-    (in-range (psiOf p) (demand-fine (psiOk (psiOf p)) 13 (after-fine (demand (finite p) 12) (demand (psiOk (psiOf p)) 13) (done-fine (pressureFault p) (psiOf p) w whole))))
+    subst Unsigned (judged-done (pressureFault p) (psiOf p) whole)
+    (in-range (psiOf p) (demand-was (psiOk (psiOf p)) 13 (orElse-fine-next (demand (finite p) 12) (demand (psiOk (psiOf p)) 13) (judged-was (pressureFault p) (psiOf p) whole))))
 
 -- `told` loses nothing: what is told names one answer
 pub told-one : (a b : Live) → told a ≡ told b → a ≡ b

@@ -22,19 +22,6 @@ told-one (Fields r) (Refused why) is = cc
 told-one (Refused why) (Fields r) is = cc
 told-one (Refused why) (Refused y) is = ap Refused (refusal-one why y (refused-number is) (refused-record is))
 
--- a result stands only where no fault was found, and no fault only where each demand holds
-pub judged-done : {A : Type 0} {x y : A} (f : Fault) → judged f x ≡ done y → (f ≡ fine) × (x ≡ y)
-judged-done fine is = (refl, done-one is)
-judged-done (fault number at) is = ((cc), (cc))
-
-pub orElse-fine : (f g : Fault) → orElse f g ≡ fine → (f ≡ fine) × (g ≡ fine)
-orElse-fine fine g is = (refl, is)
-orElse-fine (fault number at) g is = ((cc), (cc))
-
-pub demand-fine : (t : Bool) (number : ℕ) → demand t number ≡ fine → t ≡ true
-demand-fine true number is = refl
-demand-fine false number is = cc
-
 pub length-report : (r : Report) → length (bytesOfReport r) ≡ 32
 unfolding bytesOf bytesOfReport
 length-report r = refl

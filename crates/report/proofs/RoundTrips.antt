@@ -16,12 +16,13 @@ use Rattle.octets.proofs.Laws.{Bytes, read-part, bytes-read, zero-part}
 use Rattle.ranges.specs.Table.{runFactorOk, runsOk}
 use Rattle.ranges.proofs.Laws.{both-first, both-second, both-true, within-high}
 use Rattle.refusals.specs.Told.{Told, done, demand, orElse}
+use Rattle.refusals.proofs.Laws.{judged-was, judged-done, demand-was, orElse-fine-first, orElse-fine-next}
 use Rattle.report.specs.Judged.{factorsOk, firstOk, jobOk, reportOk, isReport, reportOf, writeOf, readOf, leftBy}
 use Rattle.group.specs.Mean.{meanOf}
 use Rattle.report.specs.Record.{listOf, fieldsOf, bytesOfReport}
 use Rattle.report.specs.declared.Factors.{Factors}
 use Rattle.report.specs.declared.Report.{Report}
-use Rattle.report.proofs.Laws.{judged-done, orElse-fine, demand-fine, length-report, read-yes, write-yes}
+use Rattle.report.proofs.Laws.{length-report, read-yes, write-yes}
 
 -- ---- what is accepted, exactly
 
@@ -30,9 +31,9 @@ pub read-accepts : {r : Report} (s : List ℕ) → readOf s ≡ done r → (leng
 unfolding readOf
 read-accepts s is =
     let size : Bool = eqb (length s) 32 in
-    let found = judged-done (orElse (demand size 14) (demand (isReport s) 15)) is in
-    let fine = orElse-fine (demand size 14) (demand (isReport s) 15) (found .0) in
-    (eqb-true (length s) 32 (demand-fine size 14 (fine .0)), demand-fine (isReport s) 15 (fine .1), found .1)
+    let faults = orElse (demand size 14) (demand (isReport s) 15) in
+    let clear = judged-was faults (fieldsOf s) is in
+    (eqb-true (length s) 32 (demand-was size 14 (orElse-fine-first (demand size 14) _ clear)), demand-was (isReport s) 15 (orElse-fine-next (demand size 14) _ clear), judged-done faults (fieldsOf s) is)
 
 -- ---- the fields of the bytes written
 
@@ -81,10 +82,10 @@ write-accepts size number runs first factors is =
     let same : Bool = eqb size 32 in
     let some : Bool = not (eqb number 0) in
     let ok : Bool = jobOk runs first (listOf factors) in
-    let found = judged-done (orElse (demand same 14) (orElse (demand some 22) (demand ok 15))) is in
-    let fine = orElse-fine (demand same 14) (orElse (demand some 22) (demand ok 15)) (found .0) in
-    let rest = orElse-fine (demand some 22) (demand ok 15) (fine .1) in
-    (eqb-true size 32 (demand-fine same 14 (fine .0)), demand-fine some 22 (rest .0), demand-fine ok 15 (rest .1), found .1)
+    let faults = orElse (demand same 14) (orElse (demand some 22) (demand ok 15)) in
+    let clear = judged-was faults (reportOf number runs first factors) is in
+    let rest = orElse-fine-next (demand same 14) _ clear in
+    (eqb-true size 32 (demand-was same 14 (orElse-fine-first (demand same 14) _ clear)), demand-was some 22 (orElse-fine-first (demand some 22) _ rest), demand-was ok 15 (orElse-fine-next (demand some 22) _ rest), judged-done faults (reportOf number runs first factors) is)
 
 -- factors in range are at most 12000 each
 factor-high : (xs : List ℕ) → factorsOk xs ≡ true → (k : ℕ) → getD xs k 0 ≤ 12000

@@ -6,6 +6,7 @@ use Prim.Native.Nat.{ℕ, _+_, _*_, _^_, _<_, _≤_}
 use native.Mathlib.Nat.{mul-le-mul}
 use native.Mathlib.Omega.{arith}
 use lib.ListN.{length}
+use Rattle.refusals.proofs.Laws.{refusal-one, done-one, refused-number, refused-record}
 use Rattle.octets.specs.Octets.{wordAt, longAt, signedAt, signedOf}
 use Rattle.octets.proofs.Laws.{number-past}
 use Rattle.ranges.specs.Table.{temperatureOk, pressureOk, ctlOk, compressibilityOk, pulsesOk, volumeOk}
@@ -17,7 +18,12 @@ use Rattle.factors.specs.Fractions.{productOf, combined}
 use Rattle.factors.specs.declared.Prover.{Prover}
 use Rattle.factors.proofs.Values.{combined-small}
 use Rattle.run.specs.Record.{runAt, sideOk, fieldsOk}
-use Rattle.run.specs.Answers.{proverOk}
+use Rattle.run.specs.Answers.{proverOk, told, toldFactor}
+use Rattle.run.specs.declared.Figures.{Figures as Sheet}
+use Rattle.run.specs.declared.Worked.{Worked}
+use Rattle.run.specs.declared.Worked.the-variants.{Figures, Refused}
+use Rattle.run.specs.declared.Outcome.{Outcome}
+use Rattle.run.specs.declared.Outcome.the-variants.{Factor, Refused as NoFactor}
 use Rattle.run.specs.declared.Run.{Run}
 use Rattle.run.specs.declared.Side.{Side}
 
@@ -102,3 +108,16 @@ four-small a b c d ha hb hc hd = combined-small 4 (a ∷ b ∷ c ∷ d ∷ []) 1
 
 pub two-small : (a b : ℕ) → a ≤ 20000 → b ≤ 20000 → rounded 4 (combined 4 (a ∷ b ∷ [])) ≤ 160000
 two-small a b ha hb = omega (arith, combined-small 4 (a ∷ b ∷ []) 4 (omega arith) (mul-le-mul ha (mul-le-mul {m₂ = 1} hb (omega arith))))
+
+-- `told` loses nothing
+pub told-one : (a b : Worked) → told a ≡ told b → a ≡ b
+told-one (Figures x) (Figures y) is = ap Figures (done-one is)
+told-one (Figures x) (Refused why) is = cc
+told-one (Refused why) (Figures x) is = cc
+told-one (Refused why) (Refused other) is = ap Refused (refusal-one why other (refused-number {A = Sheet} is) (refused-record {A = Sheet} is))
+
+pub told-factor-one : (a b : Outcome) → toldFactor a ≡ toldFactor b → a ≡ b
+told-factor-one (Factor x) (Factor y) is = ap Factor (done-one is)
+told-factor-one (Factor x) (NoFactor why) is = cc
+told-factor-one (NoFactor why) (Factor x) is = cc
+told-factor-one (NoFactor why) (NoFactor other) is = ap NoFactor (refusal-one why other (refused-number {A = ℕ} is) (refused-record {A = ℕ} is))

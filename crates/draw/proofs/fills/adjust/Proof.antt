@@ -1,5 +1,6 @@
 -- `draw::fills::adjust` meets its contract: counted from -100.00 cubic inches the scale reading is a natural number.
 use mathlib.Core.Path.{_≡_, ap}
+use Prim.Native.Nat.{_≤_}
 use native.Mathlib.Omega.{arith}
 use borrow.Author.Needs.{needs}
 use lib.IntN.{pos, natAbs, _+ℤ_}
@@ -21,14 +22,17 @@ back : (c : tie.Start) → toZ w16 (ofZ w16 (c .args .fill .scale)) ≡ c .args 
 unfolding scaleOk
 back c = within-passed-on 9999 10000 (c .args .fill .scale) (omega arith) (omega arith) (facts c .scale)
 
+high : (c : tie.Start) → scale c .above ≤ 32767
+high c = omega (arith, scale c .high)
+
 above-is : (c : tie.Start) → natAbs (toZ w16 (ofZ w16 (toZ w16 (ofZ w16 (c .args .fill .scale)) +ℤ pos 10000))) ≡ scale c .above
-above-is c = ap natAbs (cast-is (back c) (scale c))
+above-is c = ap natAbs (cast-is 10000 (back c) (scale c .is) (high c))
 
 add-above : tie.Need-add-above
-add-above c = sum-fits (back (c .before .before)) (scale (c .before .before))
+add-above c = let s = c .before .before in sum-fits 10000 (back s) (scale s .is) (high s)
 
 cast-above : tie.Need-cast-above
-cast-above c = cast-fits (back (c .before .before)) (scale (c .before .before))
+cast-above c = let s = c .before .before in cast-fits 10000 (back s) (scale s .is) (high s)
 
 cast-result : tie.Need-cast-result
 cast-result c = search needs

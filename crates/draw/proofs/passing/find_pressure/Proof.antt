@@ -11,7 +11,6 @@ use Rattle.draw.specs.Fill.{fillAt}
 use Rattle.draw.specs.Passes.{fillsIn, passPressure, pressureAt, isOf}
 use Rattle.draw.specs.declared.FillRecord.{FillRecord}
 use Rattle.draw.proofs.Fields.{fields}
-use Rattle.draw.proofs.Sound.{sound}
 use Rattle.draw.proofs.Volumes.{of-pass, not-of-pass}
 use Rattle.draw.proofs.passing.find_pressure.Statement.{statement}
 use Rattle.draw.proofs.passing.find_pressure.Tie as tie
@@ -27,7 +26,7 @@ loop-holds c = start places (placeIf (isOf (c .before .args .s .now) (c .before 
 
 read-requires : tie.Need-read-requires Inv-loop μ-loop
 unfolding fillsIn
-read-requires c κs = let s = c .before .before .before in omega (arith, sound (s .args .prover) (s .args .s .now) (s .pre) .few-fills)
+read-requires c κs = let s = c .before .before .before in omega (arith, s .pre .0)
 
 returns : tie.Need-returns Inv-loop μ-loop
 unfolding passPressure fillsIn
@@ -37,7 +36,7 @@ returns c =
     let s = l .before .before in
     let a = s .args in
     let h : l .loop .i < length (a .s .now) / 32 = omega arith in
-    (ap (λ (f : FillRecord). f .pressure) (r .read .ensures) ∙ sym (ap (pressureAt (a .s .now)) (place-hit (isOf (a .s .now) (a .pass)) (length (a .s .now) / 32) (l .loop .i) h (of-pass (a .s .now) (l .loop .i) (r .read .ensures) (c .if1 .taken)) (l .loop .inv))), ap (λ (f : FillRecord). pressureOk (f .pressure)) (r .read .ensures) ∙ fields (fillAt (a .s .now) (l .loop .i)) (sound (a .prover) (a .s .now) (s .pre) .fill (l .loop .i) h) .pressure)
+    (ap (λ (f : FillRecord). f .pressure) (r .read .ensures) ∙ sym (ap (pressureAt (a .s .now)) (place-hit (isOf (a .s .now) (a .pass)) (length (a .s .now) / 32) (l .loop .i) h (of-pass (a .s .now) (l .loop .i) (r .read .ensures) (c .if1 .taken)) (l .loop .inv))), ap (λ (f : FillRecord). pressureOk (f .pressure)) (r .read .ensures) ∙ fields (fillAt (a .s .now) (l .loop .i)) (s .pre .1 (l .loop .i) h) .pressure)
 
 add-i : tie.Need-add-i Inv-loop μ-loop
 add-i c = search needs

@@ -1,21 +1,21 @@
 -- `draw::passing::find_volume` meets its contract.
 use mathlib.Core.Path.{_∙_}
-use borrow.Author.Needs.{needs}
 use Rattle.draw.specs.Passes.{correctedVolume, passVolume}
-use Rattle.draw.proofs.Sound.{sound}
+use Rattle.draw.proofs.Sound.{Sound, sound}
 use Rattle.draw.proofs.passing.find_volume.Statement.{statement}
 use Rattle.draw.proofs.passing.find_volume.Tie as tie
 
+good : (c : tie.Start) → Sound (c .args .prover) (c .args .s .now)
+good c = sound (c .args .prover) (c .args .s .now) (c .pre)
+
 find-pressure-requires : tie.Need-find-pressure-requires
-find-pressure-requires c κs = search needs
+find-pressure-requires c κs = let w = good (c .before .before) in (w .few-fills, w .fill)
 
 add-up-requires : tie.Need-add-up-requires
-add-up-requires c κs = search needs
+add-up-requires c κs = let w = good (c .before .before .before) in (w .metal, w .few-fills, w .fill)
 
 correct-requires : tie.Need-correct-requires
-correct-requires c κs =
-    let s = c .before .before .before .before in
-    (sound (s .args .prover) (s .args .s .now) (s .pre) .pipe, c .before .find-pressure .ensures .1, c .add-up .ensures .1)
+correct-requires c κs = (good (c .before .before .before .before) .pipe, c .before .find-pressure .ensures .1, c .add-up .ensures .1)
 
 returns : tie.Need-returns
 unfolding passVolume
