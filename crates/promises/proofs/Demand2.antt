@@ -12,8 +12,8 @@ use borrow.Author.Tests.{eqb-true, eq-eqb, ne-eqb}
 use lib.Dec.{eqb}
 use lib.ListN.{length, getD, take, drop, List·getD-append}
 use lib.Seq.{getD-append-seam}
-use Rattle.refusals.specs.Told.{Told, done, Fault, fine, fault, demand, demandAt, orElse, refused}
-use Rattle.refusals.proofs.Laws.{done-one, demand-holds, demandAt-holds, demand-was, demandAt-was, orElse-next, orElse-fine-first, orElse-fine-next, judged-fine, judged-was, judged-done, refused-not-done}
+use Rattle.refusals.specs.Told.{done, Fault, fine, demand, demandAt, orElse, refused}
+use Rattle.refusals.proofs.Laws.{demand-holds, demandAt-holds, demand-was, demandAt-was, orElse-next, orElse-fine-first, orElse-fine-next, judged-fine, judged-was, judged-done}
 use Rattle.ranges.specs.Table.{kFactorOk, limitOk, volumeOk, passesOk}
 use Rattle.ranges.proofs.Laws.{both-first, both-second, both-true}
 use Rattle.octets.specs.FirstToLast.{scan}
@@ -23,7 +23,7 @@ use Rattle.factors.specs.Answers.{pipeOk}
 use Rattle.factors.specs.declared.Prover.{Prover}
 use Rattle.group.specs.Mean.{meanOf}
 use Rattle.group.specs.Repeatability.{qualifies, groupAt, firstGroup}
-use Rattle.group.proofs.Groups.{qualifies-repeats, repeats-qualifies}
+use Rattle.group.proofs.Groups.{first-found, qualifies-repeats, repeats-qualifies}
 use Rattle.report.specs.Record.{listOf}
 use Rattle.report.specs.Judged.{reportOf}
 use Rattle.report.specs.declared.Report.{Report}
@@ -39,6 +39,7 @@ use Rattle.draw.specs.Passes.{fillsIn, lengthOk, passCount, passVolume, volumes
 use Rattle.draw.specs.Base.{barrelsOf, baseFrom}
 use Rattle.draw.specs.Answers.{recordFault as recordFaultOfFill, fillFault, drawFault, decidedBy, unless, drawOf}
 use Rattle.draw.specs.declared.BaseVolume.{BaseVolume}
+use Rattle.draw.proofs.Outcome.{Accepted, accepted}
 use Rattle.draw.proofs.Volumes.{length-volumes}
 use Rattle.promises.specs.Proving.{InputWithin, FiguresWithin, Acceptable, Used}
 use Rattle.promises.specs.WaterDraw as draw
@@ -171,7 +172,7 @@ module _ (prover : Prover) (k limit : ℕ) (s : List ℕ) where
 
     least-five : (place : ℕ) → firstFive prover k limit s ≡ some place → Least (factorAt prover k s) (factorsOf prover k s) factor-values 5 limit place
     unfolding firstFive
-    least-five place is = first-least (factorAt prover k s) (factorsOf prover k s) factor-values 5 limit is
+    least-five place is = first-least (factorAt prover k s) (factorsOf prover k s) factor-values 5 limit (first-found limit 5 (factorsOf prover k s) is)
 
     -- 'A job is accepted exactly when ..': only then,
     pub accepted-only-when : {r : Report} → jobOf request prover k limit s size ≡ done r → (size ≡ 32) × (request ≡ 0 → ⊥) × Acceptable prover k limit s
@@ -276,34 +277,15 @@ module _ (prover : Prover) (s : List ℕ) where
   unfolding volumesOf draw.volumeAt
   volume-values i h = pass-values (passCount s) i (omega (arith, length-volumes prover s (passCount s)))
 
-  abbrev decided : Told BaseVolume
-  decided = decidedBy (volumesOf prover s) (firstGroup 2 3 (volumesOf prover s))
-
-  -- what a draw that is done has been judged by
-  record Drew (b : BaseVolume) : Type 0 where
-    input : drawFault prover s ≡ fine
-    place : ℕ
-    group : firstGroup 2 3 (volumesOf prover s) ≡ some place
-    is : b ≡ baseFrom (groupAt 3 (volumesOf prover s) place) place
-
-  drew : {b : BaseVolume} → drawOf prover s ≡ done b → Drew b
-  unfolding drawOf
-  drew {b} is = by-fault (drawFault prover s) (firstGroup 2 3 (volumesOf prover s)) refl refl is
-    where
-      by-fault : (f : Fault) (o : Option ℕ) → drawFault prover s ≡ f → firstGroup 2 3 (volumesOf prover s) ≡ o → unless f (decidedBy (volumesOf prover s) o) ≡ done b → Drew b
-      by-fault fine none none-found group is = absurd (refused-not-done is)
-      by-fault fine (some at) none-found group is = record { input = none-found; place = at; group = group; is = sym (done-one is) }
-      by-fault (fault number at) o some-found group is = absurd (refused-not-done is)
-
   abbrev LeastThree : ℕ → Type 0
   LeastThree place = Least (draw.volumeAt prover s) (volumesOf prover s) volume-values 3 2 place
 
   -- 'A job is accepted exactly when ..': only then,
   pub draw-accepted-only-when : {b : BaseVolume} → drawOf prover s ≡ done b → draw.Acceptable prover s
-  draw-accepted-only-when is =
-      let d = drew is in
-      let least : LeastThree (d .place) = first-least (draw.volumeAt prover s) (volumesOf prover s) volume-values 3 2 (d .group) in
-      record { input = fills-within (d .input); place = d .place; three = record { room = omega (arith, least .room, volume-count); meet = least .meet } }
+  draw-accepted-only-when {b} is =
+      let d : Accepted prover s b = accepted prover s is in
+      let least : LeastThree (d .at) = first-least (draw.volumeAt prover s) (volumesOf prover s) volume-values 3 2 (d .first) in
+      record { input = fills-within (d .nothing); place = d .at; three = record { room = omega (arith, least .room, volume-count); meet = least .meet } }
 
   -- and always then
   pub draw-accepted-when : draw.Acceptable prover s → (b : BaseVolume) × (drawOf prover s ≡ done b)
@@ -319,14 +301,14 @@ module _ (prover : Prover) (s : List ℕ) where
   pub draw-first-is-used : {b : BaseVolume} → drawOf prover s ≡ done b → draw.Used prover s b
   unfolding baseFrom
   draw-first-is-used {b} is =
-      let d = drew is in
-      let least : LeastThree (d .place) = first-least (draw.volumeAt prover s) (volumesOf prover s) volume-values 3 2 (d .group) in
-      let three = group-listed (draw.volumeAt prover s) (volumesOf prover s) volume-values 3 (d .place) (least .room) in
+      let d : Accepted prover s b = accepted prover s is in
+      let least : LeastThree (d .at) = first-least (draw.volumeAt prover s) (volumesOf prover s) volume-values 3 2 (d .first) in
+      let three = group-listed (draw.volumeAt prover s) (volumesOf prover s) volume-values 3 (d .at) (least .room) in
       record {
-        place = d .place;
+        place = d .at;
         three = record { room = omega (arith, least .room, volume-count); meet = least .meet };
         none-before = λ j h meets. apart (sym (meets .meet) ∙ least .earlier j h);
-        base = ap (λ (q : BaseVolume). q .base) (d .is) ∙ ap meanOf three;
-        barrels = ap (λ (q : BaseVolume). q .barrels) (d .is) ∙ ap (λ (xs : List ℕ). barrelsOf (meanOf xs)) three;
-        first = ap (λ (q : BaseVolume). q .first) (d .is);
+        base = ap (λ (q : BaseVolume). q .base) (d .gives) ∙ ap meanOf three;
+        barrels = ap (λ (q : BaseVolume). q .barrels) (d .gives) ∙ ap (λ (xs : List ℕ). barrelsOf (meanOf xs)) three;
+        first = ap (λ (q : BaseVolume). q .first) (d .gives);
       }
