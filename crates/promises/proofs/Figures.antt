@@ -30,7 +30,7 @@ use Rattle.draw.specs.Fill.{fillFrom, fillAt, certifiedOk, scaleOk, fieldsOk as
 use Rattle.draw.specs.Drawn.{adjusted, measureCts, proverCts, ccts, drawn, figuresOf as fillFigures}
 use Rattle.draw.specs.Base.{barrelsOf}
 use Rattle.draw.specs.Answers.{recordFault, fillOf}
-use Rattle.draw.proofs.Figures.{paperFill, fillBytes}
+use Rattle.draw.proofs.Figures.{fillBytes}
 use Rattle.ticket.specs.Ranges.{readingOk, meterFactorOk, sedimentOk, suppliedOk, liquidOk, fieldsOk as ticketFieldsOk}
 use Rattle.ticket.specs.Formulas.{indicated, cplFrom, factor, gross, net}
 use Rattle.ticket.specs.Answers.{volumes, ticketOf}
@@ -52,6 +52,10 @@ run = record {
   prover = record { temperature = pos 735; pressure = 40; ctl = 9907; compressibility = 820 };
   meter = record { temperature = pos 735; pressure = 40; ctl = 9908; compressibility = 820 };
 }
+
+-- 'fill 11550.00, scale 0, prover 70.0, measure 70.5, both 265, CTDW 1.000060', of pass 1 at 0 psi; the prover's 265 is its metal's
+unfoldable pub fill : List ℕ
+fill = fillBytes 1155000 0 700 705 265 1000060 1 0
 
 -- '10010, 10000, 10001, 10002, 10003, 10005'
 unfoldable pub six : List ℕ
@@ -91,7 +95,7 @@ pub record Figures : Type 0 where
       ≡ 0x07 ∷ 0x00 ∷ 0x00 ∷ 0x00 ∷ 0x12 ∷ 0x27 ∷ 0x02 ∷ 0x06 ∷ 0x10 ∷ 0x27 ∷ 0x11 ∷ 0x27 ∷ 0x12 ∷ 0x27 ∷ 0x13 ∷ 0x27 ∷ 0x15 ∷ 0x27 ∷ replicate 14 0
   -- 11. 'fill 11550.00, scale 0, prover 70.0, measure 70.5, both 265, CTDW 1.000060: CCTS 1.000013, drawn 11550.84.
   -- 9702.00 cubic inches is 1.0000 barrel.'
-  pub one-fill : fillOf Stainless316 paperFill ≡ done (record { adjusted = 1155000; measure = 1000278; prover = 1000265; ccts = 1000013; drawn = 1155084 })
+  pub one-fill : fillOf Stainless316 fill ≡ done (record { adjusted = 1155000; measure = 1000278; prover = 1000265; ccts = 1000013; drawn = 1155084 })
   pub one-barrel : barrelsOf 970200 ≡ 10000
   -- 12. 'ticket 100,000.00 to 100,500.00, 1.0002, 0.9908, 40 psi, F 820, S 500: factor 0.9913, gross 495.65, net 493.17.'
   pub one-ticket : ticketOf (record { opening = 10000000; closing = 10050000; mf = 10002; ctl = 9908; pressure = 40; compressibility = 820; sediment = 500 })
@@ -106,7 +110,7 @@ pub record Figures : Type 0 where
   pub first : requestOf (sent 1 5 (sent 0 9 emptyBook)) 2 1 ≡ done tt
 
 pub figures : Figures
-unfolding prover run six temperatureOk drawProverOk drawMeasureOk pressureOk coefficientOk modulusOk diameterOk wallOk compressibilityOk ctlOk ctdwOk runFactorOk volumeOk pulsesOk kFactorOk runsOk roundedDiv rounded numberAt byteAt wordAt longAt signedOf signedAt isZeroAt zeroBetween bytesOf firstToLast placeIf sumOf meanOf smallest largest qualifies groupAt qualifiesAt firstGroup metalOk cts cps cpl combined pipeOk ctsOf cpsOf cplOf sideOk runFieldsOk indicatedBy steelCts steelCps liquidCpl correctedBy atProver atMeter figuresFrom runFigures proverOk figuresFault workedOf listOf bytesOfReport factorsOk firstOk jobOk reportOf writeOf leftBy fillFrom fillAt certifiedOk scaleOk fillFieldsOk unnamedOk adjusted measureCts proverCts ccts drawn fillFigures barrelsOf recordFault fillOf paperFill fillBytes readingOk meterFactorOk sedimentOk suppliedOk liquidOk ticketFieldsOk indicated cplFrom factor gross net volumes ticketOf tenthsOf ofBits places waiting lineOf isIn areProper areZero shippers reserve ceiling commons lineAt waitingOf has beyond commonsUsed put emptyBook isLineSound isSoundAt areLinesSound isSound hasRoom requestFault requestOf afterRequest sent
+unfolding prover run fill six temperatureOk drawProverOk drawMeasureOk pressureOk coefficientOk modulusOk diameterOk wallOk compressibilityOk ctlOk ctdwOk runFactorOk volumeOk pulsesOk kFactorOk runsOk roundedDiv rounded numberAt byteAt wordAt longAt signedOf signedAt isZeroAt zeroBetween bytesOf firstToLast placeIf sumOf meanOf smallest largest qualifies groupAt qualifiesAt firstGroup metalOk cts cps cpl combined pipeOk ctsOf cpsOf cplOf sideOk runFieldsOk indicatedBy steelCts steelCps liquidCpl correctedBy atProver atMeter figuresFrom runFigures proverOk figuresFault workedOf listOf bytesOfReport factorsOk firstOk jobOk reportOf writeOf leftBy fillFrom fillAt certifiedOk scaleOk fillFieldsOk unnamedOk adjusted measureCts proverCts ccts drawn fillFigures barrelsOf recordFault fillOf fillBytes readingOk meterFactorOk sedimentOk suppliedOk liquidOk ticketFieldsOk indicated cplFrom factor gross net volumes ticketOf tenthsOf ofBits places waiting lineOf isIn areProper areZero shippers reserve ceiling commons lineAt waitingOf has beyond commonsUsed put emptyBook isLineSound isSoundAt areLinesSound isSound hasRoom requestFault requestOf afterRequest sent
 figures = record {
   cts-at-70 = refl;
   cts-at-50 = refl;
