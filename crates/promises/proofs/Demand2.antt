@@ -41,7 +41,7 @@ use Rattle.draw.specs.Answers.{recordFault as recordFaultOfFill, fillFault, dra
 use Rattle.draw.specs.declared.BaseVolume.{BaseVolume}
 use Rattle.draw.proofs.Outcome.{Accepted, accepted}
 use Rattle.draw.proofs.Volumes.{length-volumes}
-use Rattle.promises.specs.Proving.{InputWithin, FiguresWithin, Acceptable, Used}
+use Rattle.promises.specs.Proving.{InputWithin, FiguresWithin, FiveMeet, Acceptable, Used}
 use Rattle.promises.specs.WaterDraw as draw
 use Rattle.promises.proofs.Groups.{apart, Least, group-listed, first-least, some-found}
 
@@ -130,6 +130,11 @@ module _ (prover : Prover) (k limit : ℕ) (s : List ℕ) where
   unfolding factorsOf
   factor-count = listed-length (factorAt prover k s) (runsIn s) 0
 
+  -- where no group is found, no five meet the limit
+  pub no-five : firstFive prover k limit s ≡ none → (at : ℕ) → FiveMeet prover k limit s at → ⊥
+  unfolding firstFive
+  no-five is at five = some-found (factorAt prover k s) (factorsOf prover k s) factor-values 5 limit at (omega (arith, five .room, factor-count)) (five .meet) is
+
   -- the report's five are the factors of the five runs
   five-listed : (at : ℕ) → at + 5 ≤ runsIn s → listOf (fiveAt (factorsOf prover k s) at) ≡ listed (factorAt prover k s) 5 at
   unfolding listOf fiveAt listed
@@ -191,14 +196,14 @@ module _ (prover : Prover) (k limit : ℕ) (s : List ℕ) where
 
     -- and always then
     pub accepted-when : size ≡ 32 → (request ≡ 0 → ⊥) → Acceptable prover k limit s → (r : Report) × (jobOf request prover k limit s size ≡ done r)
-    unfolding jobOf firstFive
+    unfolding jobOf
     accepted-when buffer asked ok = (
       report,
       judged-fine report
           (joined (demand-holds 14 (eq-eqb size 32 buffer))
           (joined (demand-holds 22 (ap not (ne-eqb request 0 asked)))
           (joined (within-clear (ok .input) (ok .figures))
-          (group-fine (firstGroup limit 5 (factorsOf prover k s)) (some-found (factorAt prover k s) (factorsOf prover k s) factor-values 5 limit (ok .place) (omega (arith, ok .five .room, factor-count)) (ok .five .meet)))))),
+          (group-fine (firstFive prover k limit s) (λ is. no-five is (ok .place) (ok .five)))))),
     )
 
     -- 'The first such group is the one used.' Its mean is the job's factor.
@@ -277,6 +282,10 @@ module _ (prover : Prover) (s : List ℕ) where
   unfolding volumesOf draw.volumeAt
   volume-values i h = pass-values (passCount s) i (omega (arith, length-volumes prover s (passCount s)))
 
+  -- where no group is found, no three meet the limit
+  pub no-three : firstGroup 2 3 (volumesOf prover s) ≡ none → (at : ℕ) → draw.ThreeMeet prover s at → ⊥
+  no-three is at three = some-found (draw.volumeAt prover s) (volumesOf prover s) volume-values 3 2 at (omega (arith, three .room, volume-count)) (three .meet) is
+
   abbrev LeastThree : ℕ → Type 0
   LeastThree place = Least (draw.volumeAt prover s) (volumesOf prover s) volume-values 3 2 place
 
@@ -291,7 +300,7 @@ module _ (prover : Prover) (s : List ℕ) where
   pub draw-accepted-when : draw.Acceptable prover s → (b : BaseVolume) × (drawOf prover s ≡ done b)
   unfolding drawOf
   draw-accepted-when ok =
-      by-place (firstGroup 2 3 (volumesOf prover s)) (some-found (draw.volumeAt prover s) (volumesOf prover s) volume-values 3 2 (ok .place) (omega (arith, ok .three .room, volume-count)) (ok .three .meet))
+      by-place (firstGroup 2 3 (volumesOf prover s)) (λ is. no-three is (ok .place) (ok .three))
     where
       by-place : (o : Option ℕ) → (o ≡ none → ⊥) → (b : BaseVolume) × (unless (drawFault prover s) (decidedBy (volumesOf prover s) o) ≡ done b)
       by-place none found = absurd (found refl)

@@ -36,6 +36,8 @@ use Rattle.book.proofs.request.Reads as request
 use Rattle.book.proofs.withdraw.Reads as withdraw
 use Rattle.book.proofs.take.Reads as take
 use Rattle.promises.specs.Ending.{Ends}
+use Rattle.promises.specs.Causes.{JobCause, DrawCause}
+use Rattle.promises.proofs.AtFault.{job-at-fault, draw-at-fault}
 use Rattle.promises.proofs.Endings.{as-told}
 use Rattle.promises.proofs.Demand1.{cts-ends, cps-ends, cpl-ends, worked-ends, factor-ends, shown-ends, job-ends, none-when-refused, write-ends, read-ends, fill-ends, passes-end, draw-ends, ticket-ends, live-ends, request-ends, withdrawal-ends, take-ends, buffer-as-found, request-leaves-book, withdrawal-leaves-book, take-leaves-book}
 
@@ -49,6 +51,8 @@ pub record Entries : Type 0 where
   pub show-entry : (κ : _) (a : _) (r : _) (x : _) → show.Post κ a r x → Ends (1 ∷ 3 ∷ 4 ∷ 5 ∷ 2 ∷ 7 ∷ 8 ∷ []) 1 1 (toldRun r)
   -- the job: records 1 to the count of those lent; a refusal leaves the buffer's bytes
   pub prove-entry : (κ : _) (a : _) (r : _) (x : _) → prove.Post κ a r x → Ends (14 ∷ 22 ∷ 1 ∷ 3 ∷ 4 ∷ 5 ∷ 2 ∷ 7 ∷ 8 ∷ 9 ∷ []) 1 (runsIn (a .1 .1 .1 .1 .0 .now)) (toldReport r)
+  -- its number's cause holds, and its record is the first at fault
+  pub prove-cause : (κ : _) (a : _) (r : _) (x : _) {number at : ℕ} → prove.Post κ a r x → toldReport r ≡ refused number at → JobCause (a .0) (a .1 .0) (a .1 .1 .0) (a .1 .1 .1 .0) (a .1 .1 .1 .1 .0 .now) (length (a .1 .1 .1 .1 .1 .0 .now)) number at
   pub prove-leaves : (κ : _) (a : _) (r : _) (x : _) {number at : ℕ} → prove.Post κ a r x → toldReport r ≡ refused number at → x .1 .1 .1 .1 .1 .0 .now ≡ a .1 .1 .1 .1 .1 .0 .now
   -- '(The entry that hands run records back hands back none when it refuses, and no number.)'
   pub accept-hands-none : (κ : _) (a : _) (r : _) (x : _) {number at : ℕ} → accept.Post κ a r x → foundOf (a .0) (a .1 .0) (a .1 .1 .0) (a .1 .1 .1 .0 .now) ≡ refused number at → r .now ≡ []
@@ -58,6 +62,7 @@ pub record Entries : Type 0 where
   pub fill-entry : (κ : _) (a : _) (r : _) (x : _) → fill.Post κ a r x → Ends (1 ∷ 3 ∷ 5 ∷ 2 ∷ []) 1 1 (toldFill r)
   pub passes-entry : (κ : _) (a : _) (r : _) (x : _) → passes.Post κ a r x → Ends (1 ∷ 3 ∷ 5 ∷ 2 ∷ 6 ∷ []) 1 (fillsIn (a .1 .0 .now)) (toldPasses (r .answer))
   pub draw-entry : (κ : _) (a : _) (r : _) (x : _) → draw.Post κ a r x → Ends (1 ∷ 3 ∷ 5 ∷ 2 ∷ 6 ∷ 9 ∷ []) 1 (fillsIn (a .1 .0 .now)) (toldDraw r)
+  pub draw-cause : (κ : _) (a : _) (r : _) (x : _) {number at : ℕ} → draw.Post κ a r x → toldDraw r ≡ refused number at → DrawCause (a .0) (a .1 .0 .now) number at
   pub ticket-entry : (κ : _) (a : _) (r : _) (x : _) → ticket.Post κ a r x → Ends (10 ∷ 11 ∷ []) 0 0 (toldTicket r)
   pub convert-entry : (κ : _) (a : _) (r : _) (x : _) → convert.Post κ a r x → Ends (12 ∷ 13 ∷ []) 0 0 (toldLive r)
   -- the book: a refusal hands back the book that came in
@@ -78,6 +83,7 @@ entries =
       find-factor-entry = λ κ a r x p. as-told p (factor-ends (a .0) (a .1 .0) (a .1 .1 .0) (a .1 .1 .1 .0));
       show-entry = λ κ a r x p. as-told p (shown-ends (a .0) (a .1 .0) (a .1 .1 .0 .now));
       prove-entry = λ κ a r x p. as-told (p .0) (job-ends (a .0) (a .1 .0) (a .1 .1 .0) (a .1 .1 .1 .0) (a .1 .1 .1 .1 .0 .now) (length (a .1 .1 .1 .1 .1 .0 .now)));
+      prove-cause = λ κ a r x p is. job-at-fault (a .1 .0) (a .1 .1 .0) (a .1 .1 .1 .1 .0 .now) (a .0) (a .1 .1 .1 .0) (length (a .1 .1 .1 .1 .1 .0 .now)) (sym (p .0) ∙ is);
       prove-leaves = λ κ a r x p is. p .1 ∙ buffer-as-found (a .1 .1 .1 .1 .1 .0 .now) (sym (p .0) ∙ is);
       accept-hands-none = λ κ a r x p is. p ∙ none-when-refused (a .0) (a .1 .0) (a .1 .1 .0) (a .1 .1 .1 .0 .now) is;
       write-entry = λ κ a r x p. as-told (p .0) (write-ends (length (a .1 .1 .1 .1 .0 .now)) (a .0) (a .1 .0) (a .1 .1 .0) (a .1 .1 .1 .0));
@@ -86,6 +92,7 @@ entries =
       fill-entry = λ κ a r x p. as-told p (fill-ends (a .0) (a .1 .0 .now));
       passes-entry = λ κ a r x p. as-told (p .0) (passes-end (a .0) (a .1 .0 .now));
       draw-entry = λ κ a r x p. as-told p (draw-ends (a .0) (a .1 .0 .now));
+      draw-cause = λ κ a r x p is. draw-at-fault (a .0) (a .1 .0 .now) (sym p ∙ is);
       ticket-entry = λ κ a r x p. as-told p (ticket-ends (a .0));
       convert-entry = λ κ a r x p. as-told p (live-ends (a .0 .temperature) (a .0 .pressure));
       request-entry = λ κ a r x p. as-told (p .0) (request-ends (a .0) (a .1 .0) (a .1 .1 .0));

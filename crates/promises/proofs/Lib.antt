@@ -1,9 +1,11 @@
 pub mod Figures
 pub mod Endings
 pub mod Demand1
-pub mod Entries
+pub mod Reasons
 pub mod Groups
 pub mod Demand2
+pub mod AtFault
+pub mod Entries
 pub mod Formulas
 pub mod Jobs
 pub mod Demand3

@@ -1,3 +1,4 @@
 pub mod Proving
 pub mod WaterDraw
 pub mod Ending
+pub mod Causes
