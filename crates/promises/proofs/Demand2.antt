@@ -5,15 +5,15 @@ use mathlib.Core.Bool.{true, not, _&&_}
 use mathlib.Core.Logic.{by-cases}
 use mathlib.Core.List.{List, [], _∷_, _++_}
 use mathlib.Core.Option.{Option, none, some}
-use Prim.Native.Nat.{ℕ, zero, suc, _+_, _*_, _/_, _%_, _≤_, _<_}
+use Prim.Native.Nat.{ℕ, zero, suc, _+_, _*_, _/_, _%_, _≤_, _<_, _-_}
 use native.Mathlib.Decide.{decLt}
 use native.Mathlib.Omega.{arith}
 use borrow.Author.Tests.{eqb-true, eq-eqb, ne-eqb}
 use lib.Dec.{eqb}
-use lib.ListN.{length, getD, List·getD-append}
+use lib.ListN.{length, getD, take, drop, List·getD-append}
 use lib.Seq.{getD-append-seam}
-use Rattle.refusals.specs.Told.{Told, done, Fault, fine, fault, demand, demandAt, orElse}
-use Rattle.refusals.proofs.Laws.{done-one, demand-holds, demandAt-holds, demand-was, demandAt-was, orElse-next, orElse-fine-first, orElse-fine-next, judged-fine, judged-was, judged-done, refused-not-done}
+use Rattle.refusals.specs.Told.{done, Fault, fine, demand, demandAt, orElse, refused}
+use Rattle.refusals.proofs.Laws.{demand-holds, demandAt-holds, demand-was, demandAt-was, orElse-next, orElse-fine-first, orElse-fine-next, judged-fine, judged-was, judged-done}
 use Rattle.ranges.specs.Table.{kFactorOk, limitOk, volumeOk, passesOk}
 use Rattle.ranges.proofs.Laws.{both-first, both-second, both-true}
 use Rattle.octets.specs.FirstToLast.{scan}
@@ -22,7 +22,8 @@ use Rattle.factors.specs.Metal.{metalOk}
 use Rattle.factors.specs.Answers.{pipeOk}
 use Rattle.factors.specs.declared.Prover.{Prover}
 use Rattle.group.specs.Mean.{meanOf}
-use Rattle.group.specs.Repeatability.{groupAt, firstGroup}
+use Rattle.group.specs.Repeatability.{qualifies, groupAt, firstGroup}
+use Rattle.group.proofs.Groups.{first-found, qualifies-repeats, repeats-qualifies}
 use Rattle.report.specs.Record.{listOf}
 use Rattle.report.specs.Judged.{reportOf}
 use Rattle.report.specs.declared.Report.{Report}
@@ -30,17 +31,37 @@ use Rattle.run.specs.Record.{runAt, fieldsOk}
 use Rattle.run.specs.Figures.{figuresOf}
 use Rattle.run.specs.Answers.{proverOk, figuresFault}
 use Rattle.proving.specs.Judging.{runsIn, sizeOk, settingsFault, recordFault, runFault, inputFault}
-use Rattle.proving.specs.Job.{factorAt, listed, factorsOf, firstFive, groupFault, placeFound, fiveAt, reportAt, jobOf}
+use Rattle.proving.specs.Job.{factorAt, listed, factorsOf, firstFive, groupFault, placeFound, fiveAt, reportAt, jobOf, foundOf, acceptedOf}
+use Rattle.proving.proofs.Accepted.{same-number, empty-when-refused, begins-at-first-run, whole-when-done}
 use Rattle.proving.proofs.Laws.{listed-value, listed-length}
 use Rattle.draw.specs.Fill.{fillAt, fieldsOk as fillFieldsOk}
 use Rattle.draw.specs.Passes.{fillsIn, lengthOk, passCount, passVolume, volumesTo, volumesOf}
 use Rattle.draw.specs.Base.{barrelsOf, baseFrom}
 use Rattle.draw.specs.Answers.{recordFault as recordFaultOfFill, fillFault, drawFault, decidedBy, unless, drawOf}
 use Rattle.draw.specs.declared.BaseVolume.{BaseVolume}
+use Rattle.draw.proofs.Outcome.{Accepted, accepted}
 use Rattle.draw.proofs.Volumes.{length-volumes}
 use Rattle.promises.specs.Proving.{InputWithin, FiguresWithin, Acceptable, Used}
 use Rattle.promises.specs.WaterDraw as draw
 use Rattle.promises.proofs.Groups.{apart, Least, group-listed, first-least, some-found}
+
+-- 'meet the repeatability limit', in plain numbers: of the n values from a place on, every two differ by no more than `limit`
+-- ten-thousandths of any; and values of which that is so meet it
+abbrev pub Repeatable : (ℕ → ℕ) → ℕ → ℕ → ℕ → Type 0
+Repeatable f limit n at = (i j m : ℕ) → i < n → j < n → m < n → (f (at + i) - f (at + j)) * 10000 ≤ limit * f (at + m)
+
+module _ (f : ℕ → ℕ) (limit n at : ℕ) where
+  pub meeting-is-repeatable : qualifies limit (listed f n at) ≡ true → Repeatable f limit n at
+  meeting-is-repeatable is i j m hi hj hm =
+      let long : length (listed f n at) ≡ n = listed-length f n at in
+      let said : (getD (listed f n at) i 0 - getD (listed f n at) j 0) * 10000 ≤ limit * getD (listed f n at) m 0 = qualifies-repeats limit (listed f n at) is i j m (omega arith) (omega arith) (omega arith) in
+      rw (listed-value f n at i hi, listed-value f n at j hj, listed-value f n at m hm) at said
+
+  pub repeatable-is-meeting : 0 < n → Repeatable f limit n at → qualifies limit (listed f n at) ≡ true
+  repeatable-is-meeting some-values each =
+      let long : length (listed f n at) ≡ n = listed-length f n at in
+      repeats-qualifies limit (listed f n at) (omega arith)
+      (λ i j m hi hj hm. let said : (f (at + i) - f (at + j)) * 10000 ≤ limit * f (at + m) = each i j m (omega arith) (omega arith) (omega arith) in rw (listed-value f n at i (omega arith), listed-value f n at j (omega arith), listed-value f n at m (omega arith)) said)
 
 not-zero : (n : ℕ) → not (eqb n 0) ≡ true → n ≡ 0 → ⊥
 not-zero n is zero-is = apart (sym is ∙ ap not (eq-eqb n 0 zero-is))
@@ -151,7 +172,7 @@ module _ (prover : Prover) (k limit : ℕ) (s : List ℕ) where
 
     least-five : (place : ℕ) → firstFive prover k limit s ≡ some place → Least (factorAt prover k s) (factorsOf prover k s) factor-values 5 limit place
     unfolding firstFive
-    least-five place is = first-least (factorAt prover k s) (factorsOf prover k s) factor-values 5 limit is
+    least-five place is = first-least (factorAt prover k s) (factorsOf prover k s) factor-values 5 limit (first-found limit 5 (factorsOf prover k s) is)
 
     -- 'A job is accepted exactly when ..': only then,
     pub accepted-only-when : {r : Report} → jobOf request prover k limit s size ≡ done r → (size ≡ 32) × (request ≡ 0 → ⊥) × Acceptable prover k limit s
@@ -197,6 +218,15 @@ module _ (prover : Prover) (k limit : ℕ) (s : List ℕ) where
           factors = ap (λ (q : Report). listOf (q .factors)) (c .is) ∙ five-listed (c .place) room;
           factor = ap (λ (q : Report). q .factor) (c .is) ∙ ap meanOf (five-listed (c .place) room);
         }
+
+  -- 01: 'the five accepted run records are handed back as a part of the lent records; a refused job hands back the empty part and no number.
+  -- The number is the one that the job itself, with a 32-byte buffer and a non-zero request number, gives for the same input.'
+  module _ (request : ℕ) (asked : request ≡ 0 → ⊥) where
+    pub accepted-runs : {r : Report} → jobOf request prover k limit s 32 ≡ done r → (acceptedOf prover k limit s ≡ take 160 (drop (32 * (r .first - 1)) s)) × (length (acceptedOf prover k limit s) ≡ 160)
+    accepted-runs is = (begins-at-first-run request prover k limit s asked is, whole-when-done request prover k limit s asked is)
+
+    pub no-accepted-runs : {number at : ℕ} → jobOf request prover k limit s 32 ≡ refused number at → (acceptedOf prover k limit s ≡ []) × (foundOf prover k limit s ≡ refused number at)
+    no-accepted-runs is = (empty-when-refused request prover k limit s asked is, same-number request prover k limit s asked is)
 
 -- ---- the water draw
 
@@ -247,34 +277,15 @@ module _ (prover : Prover) (s : List ℕ) where
   unfolding volumesOf draw.volumeAt
   volume-values i h = pass-values (passCount s) i (omega (arith, length-volumes prover s (passCount s)))
 
-  abbrev decided : Told BaseVolume
-  decided = decidedBy (volumesOf prover s) (firstGroup 2 3 (volumesOf prover s))
-
-  -- what a draw that is done has been judged by
-  record Drew (b : BaseVolume) : Type 0 where
-    input : drawFault prover s ≡ fine
-    place : ℕ
-    group : firstGroup 2 3 (volumesOf prover s) ≡ some place
-    is : b ≡ baseFrom (groupAt 3 (volumesOf prover s) place) place
-
-  drew : {b : BaseVolume} → drawOf prover s ≡ done b → Drew b
-  unfolding drawOf
-  drew {b} is = by-fault (drawFault prover s) (firstGroup 2 3 (volumesOf prover s)) refl refl is
-    where
-      by-fault : (f : Fault) (o : Option ℕ) → drawFault prover s ≡ f → firstGroup 2 3 (volumesOf prover s) ≡ o → unless f (decidedBy (volumesOf prover s) o) ≡ done b → Drew b
-      by-fault fine none none-found group is = absurd (refused-not-done is)
-      by-fault fine (some at) none-found group is = record { input = none-found; place = at; group = group; is = sym (done-one is) }
-      by-fault (fault number at) o some-found group is = absurd (refused-not-done is)
-
   abbrev LeastThree : ℕ → Type 0
   LeastThree place = Least (draw.volumeAt prover s) (volumesOf prover s) volume-values 3 2 place
 
   -- 'A job is accepted exactly when ..': only then,
   pub draw-accepted-only-when : {b : BaseVolume} → drawOf prover s ≡ done b → draw.Acceptable prover s
-  draw-accepted-only-when is =
-      let d = drew is in
-      let least : LeastThree (d .place) = first-least (draw.volumeAt prover s) (volumesOf prover s) volume-values 3 2 (d .group) in
-      record { input = fills-within (d .input); place = d .place; three = record { room = omega (arith, least .room, volume-count); meet = least .meet } }
+  draw-accepted-only-when {b} is =
+      let d : Accepted prover s b = accepted prover s is in
+      let least : LeastThree (d .at) = first-least (draw.volumeAt prover s) (volumesOf prover s) volume-values 3 2 (d .first) in
+      record { input = fills-within (d .nothing); place = d .at; three = record { room = omega (arith, least .room, volume-count); meet = least .meet } }
 
   -- and always then
   pub draw-accepted-when : draw.Acceptable prover s → (b : BaseVolume) × (drawOf prover s ≡ done b)
@@ -290,14 +301,14 @@ module _ (prover : Prover) (s : List ℕ) where
   pub draw-first-is-used : {b : BaseVolume} → drawOf prover s ≡ done b → draw.Used prover s b
   unfolding baseFrom
   draw-first-is-used {b} is =
-      let d = drew is in
-      let least : LeastThree (d .place) = first-least (draw.volumeAt prover s) (volumesOf prover s) volume-values 3 2 (d .group) in
-      let three = group-listed (draw.volumeAt prover s) (volumesOf prover s) volume-values 3 (d .place) (least .room) in
+      let d : Accepted prover s b = accepted prover s is in
+      let least : LeastThree (d .at) = first-least (draw.volumeAt prover s) (volumesOf prover s) volume-values 3 2 (d .first) in
+      let three = group-listed (draw.volumeAt prover s) (volumesOf prover s) volume-values 3 (d .at) (least .room) in
       record {
-        place = d .place;
+        place = d .at;
         three = record { room = omega (arith, least .room, volume-count); meet = least .meet };
         none-before = λ j h meets. apart (sym (meets .meet) ∙ least .earlier j h);
-        base = ap (λ (q : BaseVolume). q .base) (d .is) ∙ ap meanOf three;
-        barrels = ap (λ (q : BaseVolume). q .barrels) (d .is) ∙ ap (λ (xs : List ℕ). barrelsOf (meanOf xs)) three;
-        first = ap (λ (q : BaseVolume). q .first) (d .is);
+        base = ap (λ (q : BaseVolume). q .base) (d .gives) ∙ ap meanOf three;
+        barrels = ap (λ (q : BaseVolume). q .barrels) (d .gives) ∙ ap (λ (xs : List ℕ). barrelsOf (meanOf xs)) three;
+        first = ap (λ (q : BaseVolume). q .first) (d .gives);
       }

@@ -1,10 +1,10 @@
 -- Judging in order ends with a number of the list, if each of its tests does.
-use mathlib.Core.Path.{_≡_}
+use mathlib.Core.Path.{_≡_, sym, subst}
 use mathlib.Core.Bool.{Bool, true, false}
 use mathlib.Core.List.{List}
 use Prim.Native.Nat.{ℕ, zero, suc, _+_, _≤_, _<_}
 use native.Mathlib.Omega.{arith}
-use Rattle.refusals.specs.Told.{Fault, fine, fault, demand, demandAt, orElse, judged}
+use Rattle.refusals.specs.Told.{Told, Fault, fine, fault, demand, demandAt, orElse, judged}
 use Rattle.octets.specs.FirstToLast.{firstToLast, scan}
 use Rattle.promises.specs.Ending.{refusalOk, Ends}
 
@@ -43,3 +43,7 @@ module _ {numbers : List ℕ} {first last : ℕ} where
 
   pub by-judged : {A : Type 0} {f : Fault} (x : A) → Finds numbers first last f → Ends numbers first last (judged f x)
   by-judged {A} {f} x ok = judged-ends f x ok
+
+-- what is told ends as its meaning does
+pub as-told : {A : Type 0} {numbers : List ℕ} {first last : ℕ} {t m : Told A} → t ≡ m → Ends numbers first last m → Ends numbers first last t
+as-told {A} {numbers} {first} {last} is ends = subst (λ (u : Told A). Ends numbers first last u) (sym is) ends

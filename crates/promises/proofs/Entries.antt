@@ -1,16 +1,17 @@
 -- Demand 1, of the entries' contracts themselves: 'Hand any entry point any bytes and numbers, and it ends with either its result or one
 -- number from the table ..' and 'A refusal writes nothing into a lent buffer and hands the book of waiting requests back unchanged.'
 -- `f.Post κ a r x` is what the function f ensures of any arguments a at entry, the answer r and the arguments x at exit.
-use mathlib.Core.Path.{_≡_, sym, _∙_, subst}
-use mathlib.Core.List.{List, [], _∷_}
+use mathlib.Core.Path.{_≡_, sym, _∙_}
+use mathlib.Core.List.{[], _∷_}
 use Prim.Native.Nat.{ℕ}
 use lib.ListN.{length}
-use Rattle.refusals.specs.Told.{Told, refused}
+use Rattle.refusals.specs.Told.{refused}
 use Rattle.factors.specs.Answers.{told as toldFactor}
 use Rattle.factors.specs.Places.{digits}
 use Rattle.run.specs.Answers.{told as toldRun, toldFactor as toldRunFactor}
 use Rattle.report.specs.Judged.{told as toldReport}
 use Rattle.proving.specs.Judging.{runsIn}
+use Rattle.proving.specs.Job.{foundOf}
 use Rattle.draw.specs.Answers.{toldFill, toldPasses, toldDraw}
 use Rattle.draw.specs.Passes.{fillsIn}
 use Rattle.ticket.specs.Answers.{told as toldTicket}
@@ -25,6 +26,7 @@ use Rattle.run.proofs.show.Reads as show
 use Rattle.report.proofs.write.Reads as write
 use Rattle.report.proofs.read.Reads as read
 use Rattle.proving.proofs.prove.Reads as prove
+use Rattle.proving.proofs.accept.Reads as accept
 use Rattle.draw.proofs.fill.Reads as fill
 use Rattle.draw.proofs.passes.Reads as passes
 use Rattle.draw.proofs.draw.Reads as draw
@@ -34,7 +36,8 @@ use Rattle.book.proofs.request.Reads as request
 use Rattle.book.proofs.withdraw.Reads as withdraw
 use Rattle.book.proofs.take.Reads as take
 use Rattle.promises.specs.Ending.{Ends}
-use Rattle.promises.proofs.Demand1.{cts-ends, cps-ends, cpl-ends, worked-ends, factor-ends, shown-ends, job-ends, write-ends, read-ends, fill-ends, passes-end, draw-ends, ticket-ends, live-ends, request-ends, withdrawal-ends, take-ends, buffer-as-found, request-leaves-book, withdrawal-leaves-book, take-leaves-book}
+use Rattle.promises.proofs.Endings.{as-told}
+use Rattle.promises.proofs.Demand1.{cts-ends, cps-ends, cpl-ends, worked-ends, factor-ends, shown-ends, job-ends, none-when-refused, write-ends, read-ends, fill-ends, passes-end, draw-ends, ticket-ends, live-ends, request-ends, withdrawal-ends, take-ends, buffer-as-found, request-leaves-book, withdrawal-leaves-book, take-leaves-book}
 
 pub record Entries : Type 0 where
   pub cts-entry : (κ : _) (a : _) (r : _) (x : _) → cts.Post κ a r x → Ends (3 ∷ 5 ∷ []) 0 0 (toldFactor r)
@@ -47,6 +50,8 @@ pub record Entries : Type 0 where
   -- the job: records 1 to the count of those lent; a refusal leaves the buffer's bytes
   pub prove-entry : (κ : _) (a : _) (r : _) (x : _) → prove.Post κ a r x → Ends (14 ∷ 22 ∷ 1 ∷ 3 ∷ 4 ∷ 5 ∷ 2 ∷ 7 ∷ 8 ∷ 9 ∷ []) 1 (runsIn (a .1 .1 .1 .1 .0 .now)) (toldReport r)
   pub prove-leaves : (κ : _) (a : _) (r : _) (x : _) {number at : ℕ} → prove.Post κ a r x → toldReport r ≡ refused number at → x .1 .1 .1 .1 .1 .0 .now ≡ a .1 .1 .1 .1 .1 .0 .now
+  -- '(The entry that hands run records back hands back none when it refuses, and no number.)'
+  pub accept-hands-none : (κ : _) (a : _) (r : _) (x : _) {number at : ℕ} → accept.Post κ a r x → foundOf (a .0) (a .1 .0) (a .1 .1 .0) (a .1 .1 .1 .0 .now) ≡ refused number at → r .now ≡ []
   pub write-entry : (κ : _) (a : _) (r : _) (x : _) → write.Post κ a r x → Ends (14 ∷ 22 ∷ 15 ∷ []) 0 0 (toldReport r)
   pub write-leaves : (κ : _) (a : _) (r : _) (x : _) {number at : ℕ} → write.Post κ a r x → toldReport r ≡ refused number at → x .1 .1 .1 .1 .0 .now ≡ a .1 .1 .1 .1 .0 .now
   pub read-entry : (κ : _) (a : _) (r : _) (x : _) → read.Post κ a r x → Ends (14 ∷ 15 ∷ []) 0 0 (toldReport r)
@@ -63,10 +68,6 @@ pub record Entries : Type 0 where
   pub take-entry : (κ : _) (a : _) (r : _) (x : _) → take.Post κ a r x → Ends (20 ∷ 27 ∷ []) 0 0 (toldTake (r .answer))
   pub take-leaves : (κ : _) (a : _) (r : _) (x : _) {number at : ℕ} → take.Post κ a r x → toldTake (r .answer) ≡ refused number at → r .book ≡ a .0
 
--- what is told ends as its meaning does
-as-told : {A : Type 0} {numbers : List ℕ} {first last : ℕ} {t m : Told A} → t ≡ m → Ends numbers first last m → Ends numbers first last t
-as-told {A} {numbers} {first} {last} is ends = subst (λ (u : Told A). Ends numbers first last u) (sym is) ends
-
 pub entries : Entries
 entries =
     record {
@@ -78,6 +79,7 @@ entries =
       show-entry = λ κ a r x p. as-told p (shown-ends (a .0) (a .1 .0) (a .1 .1 .0 .now));
       prove-entry = λ κ a r x p. as-told (p .0) (job-ends (a .0) (a .1 .0) (a .1 .1 .0) (a .1 .1 .1 .0) (a .1 .1 .1 .1 .0 .now) (length (a .1 .1 .1 .1 .1 .0 .now)));
       prove-leaves = λ κ a r x p is. p .1 ∙ buffer-as-found (a .1 .1 .1 .1 .1 .0 .now) (sym (p .0) ∙ is);
+      accept-hands-none = λ κ a r x p is. p ∙ none-when-refused (a .0) (a .1 .0) (a .1 .1 .0) (a .1 .1 .1 .0 .now) is;
       write-entry = λ κ a r x p. as-told (p .0) (write-ends (length (a .1 .1 .1 .1 .0 .now)) (a .0) (a .1 .0) (a .1 .1 .0) (a .1 .1 .1 .0));
       write-leaves = λ κ a r x p is. p .1 ∙ buffer-as-found (a .1 .1 .1 .1 .0 .now) (sym (p .0) ∙ is);
       read-entry = λ κ a r x p. as-told p (read-ends (a .0 .now));

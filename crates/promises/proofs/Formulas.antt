@@ -2,13 +2,13 @@
 -- inputs that document 01 lists, each rounded once, halves upward.' For each figure: the exact fraction it comes from, whose numbers are
 -- the rounded figures before it, and that it is that fraction rounded once.
 use mathlib.Core.Path.{_≡_, refl, sym, ap, _∙_, subst}
-use mathlib.Core.Bool.{true, _&&_}
+use mathlib.Core.Bool.{Bool, true, false, _&&_, cond}
 use mathlib.Core.List.{List, [], _∷_}
 use mathlib.Core.Option.{Option, none, some}
 use Prim.Native.Nat.{ℕ, zero, suc, _+_, _-_, _*_, _^_, _<_, _≤_}
 use native.Mathlib.Nat.{div-zero, one-le-pow, mul-le-mul, mul-pos}
 use native.Mathlib.Omega.{arith}
-use lib.Dec.{leb}
+use lib.Dec.{leb, ltb}
 use lib.IntN.{ℤ, pos, natAbs, _+ℤ_}
 use lib.ListN.{length}
 use Rattle.refusals.specs.Told.{done, demand, demandAt, orElse}
@@ -45,6 +45,17 @@ use Rattle.ticket.specs.Answers.{volumes, ticketOf}
 use Rattle.ticket.specs.declared.Ticket.{Ticket}
 use Rattle.ticket.specs.declared.Volumes.{Volumes}
 use Rattle.ticket.proofs.Magnitudes.{Bounds, in-range}
+use Rattle.report.specs.Record.{listOf}
+use Rattle.report.specs.declared.Report.{Report}
+use Rattle.run.specs.Record.{runAt}
+use Rattle.proving.specs.Judging.{runsIn}
+use Rattle.proving.specs.Job.{factorAt, listed}
+use Rattle.proving.proofs.Laws.{listed-length}
+use Rattle.draw.specs.declared.BaseVolume.{BaseVolume}
+use Rattle.factors.specs.Answers.{combinedOf, held}
+use Rattle.factors.specs.declared.Combined.the-variants.{Value as Held, TooMany, TooLarge}
+use Rattle.promises.specs.Proving.{Acceptable, Used}
+use Rattle.promises.specs.WaterDraw as water
 use Rattle.promises.specs.WaterDraw.{InputWithin}
 
 -- 'rounded once, halves upward': q is the whole number nearest to n / d, the upper where two are as near, and no other number is
@@ -105,6 +116,20 @@ cpl-rounded d f p is =
     let x = rounded d (cpl f p) in
     let ok : (pressureOk p && compressibilityOk f) ≡ true = demand-was (pressureOk p && compressibilityOk f) 5 (judged-was (demand (pressureOk p && compressibilityOk f) 5) x is) in
     moved (judged-done (demand (pressureOk p && compressibilityOk f) 5) x is) (cpl-once d f p (both-first (pressureOk p) _ ok) (both-second (pressureOk p) _ ok))
+
+-- 'A combined factor is the exact product of the rounded factors, then one rounding.'
+held-is : (fits : Bool) (n : ℕ) {q : ℕ} → cond fits (Held n) TooLarge ≡ Held q → n ≡ q
+held-is true n is = cc
+held-is false n is = cc
+
+taken-is : (few : Bool) (n : ℕ) {q : ℕ} → cond few (held n) TooMany ≡ Held q → n ≡ q
+unfolding held
+taken-is true n is = held-is (ltb n (2 ^ 64)) n is
+taken-is false n is = cc
+
+pub combined-rounded : (d : ℕ) (fs : List ℕ) {q : ℕ} → combinedOf d fs ≡ Held q → RoundedTo d (combined d fs) q
+unfolding combinedOf combined
+combined-rounded d fs is = moved (taken-is (leb (length fs) 4) (rounded d (combined d fs)) is) (combined-once d fs)
 
 -- ---- a run
 
@@ -170,10 +195,21 @@ run-rounded prover k run at {f} is =
     (demandAt-was (fieldsOk run) 5 at (orElse-fine-first (demandAt (fieldsOk run) 5 at) own from5))
     (demandAt-was (runFactorOk (x .factor)) 8 at (orElse-fine-next (demandAt (volumeOk (x .indicated)) 7 at) _ from7)))
 
--- 'The job's factor is their mean, rounded', and the base volume is: the mean of some values is their sum over their number
-pub mean-rounded : (xs : List ℕ) → 0 < length xs → RoundedOnce (sumOf xs) (length xs) (meanOf xs)
+-- every run of an acceptable job
+pub accepted-run-rounded : (prover : Prover) (k limit : ℕ) (s : List ℕ) → Acceptable prover k limit s → (i : ℕ) → i < runsIn s → RunRounded prover k (runAt s (32 * i)) (figuresOf prover k (runAt s (32 * i)))
+accepted-run-rounded prover k limit s ok i h = figures-rounded prover k (runAt s (32 * i)) (ok .input .settings) (ok .input .kFactor) (ok .input .fields i h) (ok .figures .factor i h)
+
+-- the mean of n values is their sum over n
+mean-rounded : (f : ℕ → ℕ) (n at : ℕ) → 0 < n → RoundedOnce (sumOf (listed f n at)) n (meanOf (listed f n at))
 unfolding meanOf
-mean-rounded xs h = once (sumOf xs) (length xs) h
+mean-rounded f n at h =
+    let long : length (listed f n at) ≡ n = listed-length f n at in
+    subst (λ (d : ℕ). RoundedOnce (sumOf (listed f n at)) n (roundedDiv (sumOf (listed f n at)) d)) (sym long) (once (sumOf (listed f n at)) n h)
+
+-- 'The job's factor is their mean, rounded.'
+pub job-factor-rounded : (request : ℕ) (prover : Prover) (k limit : ℕ) (s : List ℕ) (r : Report) → Used request prover k limit s r → RoundedOnce (sumOf (listOf (r .factors))) 5 (r .factor)
+job-factor-rounded request prover k limit s r used =
+    subst (λ (xs : List ℕ). RoundedOnce (sumOf xs) 5 (r .factor)) (sym (used .factors)) (moved (sym (used .factor)) (mean-rounded (factorAt prover k s) 5 (used .place) (omega arith)))
 
 -- ---- a water draw
 
@@ -246,6 +282,13 @@ pass-rounded prover s input pass =
 pub barrels-rounded : (base : ℕ) → RoundedTo 4 (base over 970200) (barrelsOf base)
 unfolding barrelsOf
 barrels-rounded base = to 4 base 970200 (omega arith)
+
+-- 'the base volume is their mean, rounded. The answer is that, the same in barrels': the sum of the three, and the rounded base
+pub base-rounded : (prover : Prover) (s : List ℕ) (b : BaseVolume) (used : water.Used prover s b) → RoundedOnce (sumOf (listed (water.volumeAt prover s) 3 (used .place))) 3 (b .base) × RoundedTo 4 (b .base over 970200) (b .barrels)
+base-rounded prover s b used = (
+  moved (sym (used .base)) (mean-rounded (water.volumeAt prover s) 3 (used .place) (omega arith)),
+  moved (ap barrelsOf (used .base) ∙ sym (used .barrels)) (barrels-rounded (b .base)),
+)
 
 -- ---- a ticket
 

@@ -2,13 +2,13 @@
 use mathlib.Core.Path.{_≡_, sym, ap, _∙_}
 use mathlib.Core.Bool.{true, false}
 use mathlib.Core.List.{List}
-use mathlib.Core.Option.{none, some}
+use mathlib.Core.Option.{none}
 use Prim.Native.Nat.{ℕ, _+_, _≤_, _<_}
 use native.Mathlib.Omega.{arith}
 use lib.ListN.{length, getD}
 use lib.Seq.{ext-getD}
 use Rattle.group.specs.Repeatability.{qualifies, groupAt, firstGroup}
-use Rattle.group.proofs.Groups.{FirstGroup, group-length, group-value, first-found, none-found}
+use Rattle.group.proofs.Groups.{FirstGroup, group-length, group-value, none-found}
 use Rattle.proving.specs.Job.{listed}
 use Rattle.proving.proofs.Laws.{listed-value, listed-length}
 
@@ -27,9 +27,8 @@ module _ (f : ℕ → ℕ) (xs : List ℕ) (values : (i : ℕ) → i < length xs
     pub meet : qualifies limit (listed f n at) ≡ true
     pub earlier : (j : ℕ) → j < at → qualifies limit (listed f n j) ≡ false
 
-  pub first-least : (limit : ℕ) {at : ℕ} → firstGroup limit n xs ≡ some at → Least limit at
-  first-least limit {at} is =
-      let first : FirstGroup limit n xs at = first-found limit n xs is in
+  pub first-least : (limit : ℕ) {at : ℕ} → FirstGroup limit n xs at → Least limit at
+  first-least limit {at} first =
       record {
         room = first .within;
         meet = ap (qualifies limit) (sym (group-listed at (first .within))) ∙ first .qualified;

@@ -1,4 +1,4 @@
--- One outcome of the calls that change a book in place. Their contracts have no plain reading (`Reads`), so each is stated twice: that its
+-- Demand 1 and one outcome for the calls that change a book in place. Their contracts have no plain reading (`Reads`), so each is stated twice: that its
 -- clause, in every model, is the fact named here of the book found, the book left and the answer; and that the fact fixes the two.
 use mathlib.Core.Path.{_≡_, refl, sym, _∙_}
 use Prim.Native.Nat.{ℕ}
@@ -10,6 +10,8 @@ use prog.Wp.{Heap}
 use ghost.Atoms.{Atoms}
 use contract.Monad.{Fun, fact}
 use contract.Lifetimes.{Lfts}
+use mathlib.Core.List.{[], _∷_}
+use Rattle.refusals.specs.Told.{refused}
 use Rattle.book.specs.Answers.{toldEntry, toldWithdrawal, toldTake}
 use Rattle.book.specs.Calls.{requestOf, afterRequest, withdrawalOf, afterWithdrawal, takeOf, afterTake}
 use Rattle.book.specs.declared.Book.{Book}
@@ -17,6 +19,9 @@ use Rattle.book.specs.declared.Entry.{Entry}
 use Rattle.book.specs.declared.Withdrawal.{Withdrawal}
 use Rattle.book.specs.declared.Handout.{Handout}
 use Rattle.book.proofs.Outcomes.{entry-one, withdrawal-one, handout-one}
+use Rattle.promises.specs.Ending.{Ends}
+use Rattle.promises.proofs.Endings.{as-told}
+use Rattle.promises.proofs.Demand1.{request-ends, withdrawal-ends, take-ends, request-leaves-book, withdrawal-leaves-book, take-leaves-book}
 use Rattle.keeper.proofs.request as request
 use Rattle.keeper.proofs.withdraw as withdraw
 use Rattle.keeper.proofs.take as take
@@ -50,3 +55,25 @@ withdraw-one shipper number found left left′ r q p p′ = (withdrawal-one r q 
 
 pub take-one : (found left left′ : Book) (r q : Handout) → Takes found left r → Takes found left′ q → (r ≡ q) × (left ≡ left′)
 take-one found left left′ r q p p′ = (handout-one r q (p .0 ∙ sym (p′ .0)), p .1 ∙ sym (p′ .1))
+
+-- 'A book call, lowest number first: a request 20 to 25; a withdrawal 20, 21, 22, 26; a take 20, 27.'
+-- 'A refusal .. hands the book of waiting requests back unchanged.'
+module _ (shipper number : ℕ) (found left : Book) where
+  pub request-ends-in-place : (r : Entry) → Requests shipper number found left r → Ends (20 ∷ 21 ∷ 22 ∷ 23 ∷ 24 ∷ 25 ∷ []) 0 0 (toldEntry r)
+  request-ends-in-place r p = as-told (p .0) (request-ends found shipper number)
+
+  pub request-leaves-in-place : (r : Entry) {n at : ℕ} → Requests shipper number found left r → toldEntry r ≡ refused n at → left ≡ found
+  request-leaves-in-place r p is = p .1 ∙ request-leaves-book found shipper number (sym (p .0) ∙ is)
+
+  pub withdrawal-ends-in-place : (r : Withdrawal) → Withdraws shipper number found left r → Ends (20 ∷ 21 ∷ 22 ∷ 26 ∷ []) 0 0 (toldWithdrawal r)
+  withdrawal-ends-in-place r p = as-told (p .0) (withdrawal-ends found shipper number)
+
+  pub withdrawal-leaves-in-place : (r : Withdrawal) {n at : ℕ} → Withdraws shipper number found left r → toldWithdrawal r ≡ refused n at → left ≡ found
+  withdrawal-leaves-in-place r p is = p .1 ∙ withdrawal-leaves-book found shipper number (sym (p .0) ∙ is)
+
+module _ (found left : Book) (r : Handout) where
+  pub take-ends-in-place : Takes found left r → Ends (20 ∷ 27 ∷ []) 0 0 (toldTake r)
+  take-ends-in-place p = as-told (p .0) (take-ends found)
+
+  pub take-leaves-in-place : {n at : ℕ} → Takes found left r → toldTake r ≡ refused n at → left ≡ found
+  take-leaves-in-place p is = p .1 ∙ take-leaves-book found (sym (p .0) ∙ is)

@@ -5,7 +5,7 @@ pub mod Entries
 pub mod Groups
 pub mod Demand2
 pub mod Formulas
+pub mod Jobs
 pub mod Demand3
-pub mod Answers
 pub mod OneOutcome
 pub mod Keeper

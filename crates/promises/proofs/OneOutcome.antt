@@ -7,6 +7,8 @@ use mathlib.Core.Path.{_≡_, sym, _∙_}
 use mathlib.Core.List.{List}
 use Prim.Native.Nat.{ℕ}
 use Rattle.group.proofs.Groups.{place-one}
+use Rattle.factors.proofs.Values.{told-one as factor-one}
+use Rattle.run.proofs.Laws.{told-one as worked-one, told-factor-one as outcome-one}
 use Rattle.report.proofs.Laws.{told-one as report-one}
 use Rattle.draw.proofs.Outcome.{fill-one, passes-one, draw-one}
 use Rattle.ticket.proofs.Laws.{told-one as ticket-one}
@@ -58,7 +60,6 @@ use Rattle.book.proofs.Book.empty.Reads as book-empty
 use Rattle.book.proofs.request.Reads as book-request
 use Rattle.book.proofs.withdraw.Reads as book-withdraw
 use Rattle.book.proofs.take.Reads as book-take
-use Rattle.promises.proofs.Answers.{factor-one, worked-one, outcome-one}
 
 -- two outcomes that satisfy a contract at the same arguments have the same answer
 abbrev pub OneAnswer : {K : Type 0} {A R X : K → Type 0} → ((κ : K) → A κ → R κ → X κ → Type 0) → Type 0
