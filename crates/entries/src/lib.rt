@@ -1,0 +1,103 @@
+// One line of the line program answered (docs/LINES.md), by the entry that its first word names.
+use book::Book;
+
+mod answers;
+mod calls;
+mod keeping;
+mod operands;
+
+// The book as it is kept on, and how many bytes of `out` are the answer.
+pub struct Answered {
+    pub book: Book,
+    pub length: usize,
+}
+
+fn answer_factor(line: &[u8], out: &mut [u8]) -> usize {
+    let name = lines::word(line, 0);
+    if lines::is_same(name, b"cts") {
+        return calls::answer_cts(line, out);
+    }
+    if lines::is_same(name, b"cps") {
+        return calls::answer_cps(line, out);
+    }
+    if lines::is_same(name, b"cpl") {
+        return calls::answer_cpl(line, out);
+    }
+    if lines::is_same(name, b"ticket") {
+        return calls::answer_ticket(line, out);
+    }
+    if lines::is_same(name, b"live") {
+        return calls::answer_live(line, out);
+    }
+    answers::say_bad(out)
+}
+
+fn answer_draw(line: &[u8], first: &mut [u8], out: &mut [u8]) -> usize {
+    let name = lines::word(line, 0);
+    if lines::is_same(name, b"draw") {
+        return calls::answer_draw(line, first, out);
+    }
+    if lines::is_same(name, b"fill") {
+        return calls::answer_fill(line, first, out);
+    }
+    if lines::is_same(name, b"passes") {
+        return calls::answer_passes(line, first, out);
+    }
+    answer_factor(line, out)
+}
+
+fn answer_call(line: &[u8], first: &mut [u8], second: &mut [u8], out: &mut [u8]) -> usize {
+    let name = lines::word(line, 0);
+    if lines::is_same(name, b"prove") {
+        return calls::answer_prove(line, first, second, out);
+    }
+    if lines::is_same(name, b"runs") {
+        return calls::answer_runs(line, first, out);
+    }
+    if lines::is_same(name, b"run") {
+        return calls::answer_run(line, first, out);
+    }
+    if lines::is_same(name, b"write") {
+        return calls::answer_write(line, first, out);
+    }
+    if lines::is_same(name, b"read") {
+        return calls::answer_read(line, first, out);
+    }
+    answer_draw(line, first, out)
+}
+
+// The line without its end, neither empty nor a comment. `first` and `second` are room for the bytes
+// that its operands spell.
+pub fn answer_line(
+    line: &[u8],
+    kept: Book,
+    first: &mut [u8],
+    second: &mut [u8],
+    out: &mut [u8],
+) -> Answered {
+    let name = lines::word(line, 0);
+    if lines::is_same(name, b"request") {
+        return keeping::answer_request(line, kept, out);
+    }
+    if lines::is_same(name, b"withdraw") {
+        return keeping::answer_withdraw(line, kept, out);
+    }
+    if lines::is_same(name, b"take") {
+        return keeping::answer_take(line, kept, out);
+    }
+    if lines::is_same(name, b"load") {
+        return keeping::answer_load(line, kept, out);
+    }
+    if lines::is_same(name, b"empty") {
+        return keeping::answer_empty(line, kept, out);
+    }
+    if lines::is_same(name, b"book") {
+        let told = keeping::answer_book(line, kept, out);
+        return Answered {
+            book: kept,
+            length: told,
+        };
+    }
+    let length = answer_call(line, first, second, out);
+    Answered { book: kept, length }
+}

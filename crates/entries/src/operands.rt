@@ -1,0 +1,151 @@
+// The operands of a line by their place, the entry's name being word 0. What is malformed reads as 0:
+// `has_form` is asked before.
+ghost use Prim.Native.Nat.{_≤_};
+use factors::Metal;
+use factors::Pipe;
+use factors::Places;
+use factors::Prover;
+use lines::Number;
+use lines::Signed;
+
+fn number_or_zero(number: Number) -> u32 {
+    match number {
+        Number::Value(value) => value,
+        Number::Malformed => 0,
+    }
+}
+
+fn is_number(number: Number) -> bool {
+    match number {
+        Number::Value(_) => true,
+        Number::Malformed => false,
+    }
+}
+
+fn is_signed(signed: Signed) -> bool {
+    match signed {
+        Signed::Value(_) => true,
+        Signed::Malformed => false,
+    }
+}
+
+fn is_places(word: &[u8]) -> bool {
+    lines::is_same(word, b"4") | lines::is_same(word, b"6")
+}
+
+// A word is of its operand's type: b u8, h u16, w u32, s i16, p places, x bytes, f single.
+fn is_operand(word: &[u8], kind: u8) -> bool {
+    match kind {
+        b'b' => is_number(lines::read_number(word, 255)),
+        b'h' => is_number(lines::read_number(word, 65535)),
+        b'w' => is_number(lines::read_number(word, 4294967295)),
+        b's' => is_signed(lines::read_signed(word)),
+        b'p' => is_places(word),
+        b'x' => lines::are_bytes(word),
+        b'f' => lines::is_single(word),
+        _ => false,
+    }
+}
+
+// As many operands as kinds, each of its kind.
+pub(crate) fn has_form(line: &[u8], kinds: &[u8]) -> bool {
+    if lines::count_words(line) != kinds.len() + 1 {
+        return false;
+    }
+    let mut i = 0;
+    while i < kinds.len() {
+        if !is_operand(lines::word(line, i + 1), kinds[i]) {
+            return false;
+        }
+        i += 1;
+    }
+    true
+}
+
+pub(crate) fn u8_at(line: &[u8], n: usize) -> u8 {
+    let value = number_or_zero(lines::read_number(lines::word(line, n), 255));
+    if value <= 255 { value as u8 } else { 0 }
+}
+
+pub(crate) fn u16_at(line: &[u8], n: usize) -> u16 {
+    let value = number_or_zero(lines::read_number(lines::word(line, n), 65535));
+    if value <= 65535 { value as u16 } else { 0 }
+}
+
+pub(crate) fn u32_at(line: &[u8], n: usize) -> u32 {
+    number_or_zero(lines::read_number(lines::word(line, n), 4294967295))
+}
+
+pub(crate) fn i16_at(line: &[u8], n: usize) -> i16 {
+    let signed = lines::read_signed(lines::word(line, n));
+    match signed {
+        Signed::Value(value) => value,
+        Signed::Malformed => 0,
+    }
+}
+
+pub(crate) fn places_at(line: &[u8], n: usize) -> Places {
+    if lines::is_same(lines::word(line, n), b"6") {
+        Places::Six
+    } else {
+        Places::Four
+    }
+}
+
+// A NaN has many patterns, and no number's: any will do.
+fn single_of(bits: u32) -> f32 {
+    let magnitude = bits % 2147483648;
+    if 2139095040 < magnitude {
+        return 0.0 / 0.0;
+    }
+    f32::from_bits(bits)
+}
+
+pub(crate) fn single_at(line: &[u8], n: usize) -> f32 {
+    single_of(lines::read_single(lines::word(line, n)))
+}
+
+// A certificate wins over the name; what is no metal is one whose coefficient is out of range.
+fn metal_of(code: u8, coefficient: u16) -> Metal {
+    if 4 < code {
+        return Metal::Certified(0);
+    }
+    if coefficient != 0 {
+        return Metal::Certified(coefficient);
+    }
+    match code {
+        0 => Metal::MildCarbon,
+        1 => Metal::Stainless304,
+        2 => Metal::Stainless316,
+        3 => Metal::PrecipitationHardened,
+        _ => Metal::Certified(0),
+    }
+}
+
+pub(crate) fn metal_at(line: &[u8], n: usize) -> Metal
+    requires { ⌜ n ≤ 8 ⌝ }
+{
+    metal_of(u8_at(line, n), u16_at(line, n + 1))
+}
+
+pub(crate) fn pipe_at(line: &[u8], n: usize) -> Pipe
+    requires { ⌜ n ≤ 8 ⌝ }
+{
+    Pipe {
+        diameter: u32_at(line, n),
+        wall: u32_at(line, n + 1),
+        modulus: u32_at(line, n + 2),
+    }
+}
+
+pub(crate) fn prover_at(line: &[u8], n: usize) -> Prover
+    requires { ⌜ n ≤ 4 ⌝ }
+{
+    let metal = metal_at(line, n);
+    let pipe = pipe_at(line, n + 2);
+    Prover {
+        metal,
+        pipe,
+        base: u32_at(line, n + 5),
+    }
+}

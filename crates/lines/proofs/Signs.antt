@@ -1,0 +1,46 @@
+-- A signed number of 16 bits on the machine: its size, by the side of zero that it is on.
+use mathlib.Core.Path.{_≡_, refl, sym, subst, subst⁻¹, ap, _∙_}
+use mathlib.Core.Bool.{Bool, true, false, true≢false}
+use Prim.Native.Nat.{ℕ, suc, _+_, _-_, _<_}
+use native.Mathlib.Omega.{arith}
+use borrow.Author.Tests.{lt-ltb, le-leb}
+use lib.Dec.{T, leb, ltb}
+use lib.IntN.{ℤ, pos, negsuc, natAbs}
+use lib.Signed.{leZ, nonNeg}
+use mir.Syntax.{w16, w64}
+use mir.Val.{Fits, SFits, toZ, ofZ}
+use mir.ValLaws.{toZ-ofZ}
+
+abbrev Whole : ℤ → Type 0
+Whole z = T (nonNeg z) × Fits w64 (natAbs z)
+
+not-both : {b : Bool} → b ≡ true → b ≡ false → ⊥
+not-both p q = true≢false (sym p ∙ q)
+
+above-zero : (z : ℤ) → SFits w16 z → leZ (pos 0) z ≡ true → Whole z
+above-zero (pos n) f h = (tt, record { fits = omega (arith, f .sfits) })
+above-zero (negsuc n) f h = absurd (not-both h refl)
+
+pub above : {z : ℤ} → SFits w16 z → leZ (pos 0) (toZ w16 (ofZ w16 z)) ≡ true → Whole (toZ w16 (ofZ w16 z))
+above {z} f h = subst⁻¹ Whole (toZ-ofZ w16 z f) (above-zero z f (subst (λ (y : ℤ). leZ (pos 0) y ≡ true) (toZ-ofZ w16 z f) h))
+
+pub record Below (z : ℤ) : Type 0 where
+  pub size : ℕ
+  pub is : toZ w16 (65535 - ofZ w16 z) ≡ pos size
+  pub abs : natAbs z ≡ size + 1
+  pub small : size < 32768
+
+turned : (n : ℕ) → n < 32768 → toZ w16 (65535 - (65536 - suc n)) ≡ pos n
+turned n h =
+    let back : 65535 - (65536 - suc n) ≡ n = omega arith in
+    rw (back, lt-ltb n 32768 h)
+
+below-zero : (z : ℤ) → SFits w16 z → leZ (pos 0) z ≡ false → Below z
+below-zero (pos n) f h = absurd (not-both (le-leb 0 n (omega arith)) h)
+below-zero (negsuc n) f h = record { size = n; is = turned n (omega (arith, f .sfits)); abs = omega arith; small = omega (arith, f .sfits) }
+
+pub below : {z : ℤ} → SFits w16 z → leZ (pos 0) (toZ w16 (ofZ w16 z)) ≡ false → Below z
+below {z} f h = below-zero z f (subst (λ (y : ℤ). leZ (pos 0) y ≡ false) (toZ-ofZ w16 z f) h)
+
+pub turned-fits : {z : ℤ} → Below z → Whole (toZ w16 (65535 - ofZ w16 z))
+turned-fits b = subst⁻¹ Whole (b .is) (tt, record { fits = omega (arith, b .small) })

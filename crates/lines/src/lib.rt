@@ -1,0 +1,327 @@
+// The line grammar (docs/LINES.md) on slices: words between single spaces, decimal numbers, bytes as
+// lower-case hex, singles as eight hex digits; each read and printed.
+ghost use Prim.Native.Nat.{_≤_, _<_};
+ghost use mathlib.Core.Path.{_≡_};
+ghost use lib.IntN.{natAbs};
+ghost use lib.ListN.{length};
+ghost use Rattle.io.specs.Counts.{Counts};
+use octets::byte_at;
+
+pub enum Number {
+    Value(u32),
+    Malformed,
+}
+
+pub enum Signed {
+    Value(i16),
+    Malformed,
+}
+
+// The place of the first space from a place on, or the end.
+fn end_word(s: &[u8], from: usize) -> usize
+    requires { ⌜ from ≤ length (now s) ⌝ }
+    ensures { λ r. ⌜ (from ≤ r) × (r ≤ length (now (s .entry))) ⌝ }
+{
+    let mut i = from;
+    while i < s.len() {
+        if s[i] == 32 {
+            return i;
+        }
+        i += 1;
+    }
+    i
+}
+
+// The place after the first space from a place on, or the end.
+fn pass_word(s: &[u8], from: usize) -> usize
+    requires { ⌜ from ≤ length (now s) ⌝ }
+    ensures { λ r. ⌜ r ≤ length (now (s .entry)) ⌝ }
+{
+    let end = end_word(s, from);
+    if end < s.len() { end + 1 } else { end }
+}
+
+// The word numbered n, from 0; no bytes past the last.
+pub fn word<'a>(s: &'a [u8], n: usize) -> &'a [u8] {
+    let mut at = 0;
+    let mut i = 0;
+    while i < n {
+        at = pass_word(s, at);
+        i += 1;
+    }
+    let end = end_word(s, at);
+    &s[at..end]
+}
+
+fn count_space(byte: u8) -> usize
+    ensures { λ r. ⌜ r ≤ 1 ⌝ }
+{
+    if byte == 32 { 1 } else { 0 }
+}
+
+// One word more than there are spaces.
+pub fn count_words(s: &[u8]) -> usize {
+    let mut count = 1;
+    let mut i = 0;
+    while i < s.len() {
+        count += count_space(s[i]);
+        i += 1;
+    }
+    count
+}
+
+pub fn is_same(a: &[u8], b: &[u8]) -> bool {
+    if a.len() != b.len() {
+        return false;
+    }
+    let mut i = 0;
+    while i < a.len() {
+        if a[i] != b[i] {
+            return false;
+        }
+        i += 1;
+    }
+    true
+}
+
+// A decimal digit, or 10 where the byte is none.
+fn value_digit(byte: u8) -> u64
+    ensures { λ r. ⌜ r ≤ 10 ⌝ }
+{
+    if 48 <= byte {
+        if byte <= 57 {
+            return (byte - 48) as u64;
+        }
+    }
+    10
+}
+
+// A whole number without leading zeros, up to the most that its operand holds.
+pub fn read_number(word: &[u8], most: u32) -> Number {
+    if word.len() == 0 {
+        return Number::Malformed;
+    }
+    if 1 < word.len() {
+        if word[0] == 48 {
+            return Number::Malformed;
+        }
+    }
+    let mut value: u64 = 0;
+    let mut i = 0;
+    while i < word.len() {
+        let digit = value_digit(word[i]);
+        if 9 < digit {
+            return Number::Malformed;
+        }
+        value = 10 * value + digit;
+        if (most as u64) < value {
+            return Number::Malformed;
+        }
+        i += 1;
+    }
+    Number::Value(value as u32)
+}
+
+fn pass_first<'a>(word: &'a [u8]) -> &'a [u8] {
+    if 0 < word.len() {
+        &word[1..]
+    } else {
+        &word[..0]
+    }
+}
+
+// No `-` stands before zero, and -32,768 is the least of 16 bits.
+fn negate(size: u32) -> Signed {
+    if size == 0 {
+        return Signed::Malformed;
+    }
+    if 32768 < size {
+        return Signed::Malformed;
+    }
+    Signed::Value(!((size - 1) as i16))
+}
+
+fn hold(size: u32) -> Signed {
+    if 32767 < size {
+        return Signed::Malformed;
+    }
+    Signed::Value(size as i16)
+}
+
+// A whole number of 16 bits with a sign: `-` stands before one that is not zero.
+pub fn read_signed(word: &[u8]) -> Signed {
+    if byte_at(word, 0) == 45 {
+        let below = read_number(pass_first(word), 32768);
+        return match below {
+            Number::Value(size) => negate(size),
+            Number::Malformed => Signed::Malformed,
+        };
+    }
+    let number = read_number(word, 32767);
+    match number {
+        Number::Value(size) => hold(size),
+        Number::Malformed => Signed::Malformed,
+    }
+}
+
+// A lower-case hex digit, or 16 where the byte is none.
+fn value_hex(byte: u8) -> u8
+    ensures { λ r. ⌜ r ≤ 16 ⌝ }
+{
+    if 48 <= byte {
+        if byte <= 57 {
+            return byte - 48;
+        }
+    }
+    if 97 <= byte {
+        if byte <= 102 {
+            return byte - 87;
+        }
+    }
+    16
+}
+
+fn are_hex(word: &[u8]) -> bool {
+    let mut i = 0;
+    while i < word.len() {
+        if 15 < value_hex(word[i]) {
+            return false;
+        }
+        i += 1;
+    }
+    true
+}
+
+fn is_dash(word: &[u8]) -> bool {
+    (word.len() == 1) & (byte_at(word, 0) == 45)
+}
+
+// Pairs of hex digits, at least one, or `-` for no bytes.
+pub fn are_bytes(word: &[u8]) -> bool {
+    if is_dash(word) {
+        return true;
+    }
+    (word.len() != 0) & ((word.len() % 2 == 0) & are_hex(word))
+}
+
+// Two digits as one byte; 0 where one is no digit.
+fn join_hex(high: u8, low: u8) -> u8 {
+    if 15 < high {
+        return 0;
+    }
+    if 15 < low {
+        return 0;
+    }
+    16 * high + low
+}
+
+// Writes the word's bytes over `into` from its start, and answers how many there are: none where the
+// word is malformed or they do not fit.
+pub fn read_bytes(word: &[u8], into: &mut [u8]) -> usize
+    ensures { λ r. ⌜ Counts r (now (into .exit)) ⌝ }
+{
+    if !are_bytes(word) {
+        return 0;
+    }
+    let count = word.len() / 2;
+    if into.len() < count {
+        return 0;
+    }
+    let mut i = 0;
+    while i < count {
+        let high = value_hex(word[2 * i]);
+        let low = value_hex(word[2 * i + 1]);
+        into[i] = join_hex(high, low);
+        i += 1;
+    }
+    count
+}
+
+// Eight hex digits.
+pub fn is_single(word: &[u8]) -> bool {
+    (word.len() == 8) & are_bytes(word)
+}
+
+// The 32 bits of a single, most significant digit first; 0 where the word is none.
+pub fn read_single(word: &[u8]) -> u32 {
+    let mut bytes = [0u8; 4];
+    let _count = read_bytes(word, &mut bytes);
+    let little = [bytes[3], bytes[2], bytes[1], bytes[0]];
+    octets::long_at(&little, 0)
+}
+
+// Each function below writes into `out` from a place on, and answers the place after; where all of it
+// does not fit, nothing is written and the place stays.
+pub fn write_text(text: &[u8], out: &mut [u8], at: usize) -> usize {
+    octets::write_at(text, out, at);
+    if at <= out.len() {
+        if text.len() <= out.len() - at {
+            return at + text.len();
+        }
+    }
+    at
+}
+
+pub fn write_number(n: u64, out: &mut [u8], at: usize) -> usize {
+    let mut digits = [0u8; 20];
+    let count = io::decimal(n, &mut digits);
+    write_text(&digits[..count], out, at)
+}
+
+// How far a number is from zero.
+fn measure(n: i16) -> u64
+    ensures { λ r. ⌜ r ≡ natAbs n ⌝ }
+{
+    if 0 <= n {
+        return n as u64;
+    }
+    (!n) as u64 + 1
+}
+
+pub fn write_signed(n: i16, out: &mut [u8], at: usize) -> usize {
+    if 0 <= n {
+        return write_number(measure(n), out, at);
+    }
+    let next = write_text(b"-", out, at);
+    write_number(measure(n), out, next)
+}
+
+fn write_hex(bytes: &[u8], out: &mut [u8], at: usize) -> usize {
+    if out.len() < at {
+        return at;
+    }
+    if (out.len() - at) / 2 < bytes.len() {
+        return at;
+    }
+    let mut i = 0;
+    while i < bytes.len() {
+        let high = spell_high(bytes[i]);
+        let low = spell_low(bytes[i]);
+        let to = at + 2 * i;
+        out[to] = high;
+        out[to + 1] = low;
+        i += 1;
+    }
+    at + 2 * bytes.len()
+}
+
+fn spell_hex(digit: u8) -> u8
+    requires { ⌜ digit < 16 ⌝ }
+{
+    if digit < 10 { 48 + digit } else { 87 + digit }
+}
+
+fn spell_high(byte: u8) -> u8 {
+    spell_hex(byte / 16)
+}
+
+fn spell_low(byte: u8) -> u8 {
+    spell_hex(byte % 16)
+}
+
+pub fn write_bytes(bytes: &[u8], out: &mut [u8], at: usize) -> usize {
+    if bytes.len() == 0 {
+        return write_text(b"-", out, at);
+    }
+    write_hex(bytes, out, at)
+}
