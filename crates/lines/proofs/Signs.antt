@@ -1,15 +1,17 @@
 -- A signed number of 16 bits on the machine: its size, by the side of zero that it is on.
 use mathlib.Core.Path.{_≡_, refl, sym, subst, subst⁻¹, ap, _∙_}
 use mathlib.Core.Bool.{Bool, true, false, true≢false}
-use Prim.Native.Nat.{ℕ, suc, _+_, _-_, _<_}
+use mathlib.Core.Option.{Option, none, some}
+use Prim.Native.Nat.{ℕ, zero, suc, _+_, _-_, _≤_, _<_}
 use native.Mathlib.Omega.{arith}
-use borrow.Author.Tests.{lt-ltb, le-leb}
+use borrow.Author.Tests.{lt-ltb, le-ltb, le-leb}
 use lib.Dec.{T, leb, ltb}
 use lib.IntN.{ℤ, pos, negsuc, natAbs}
 use lib.Signed.{leZ, nonNeg}
 use mir.Syntax.{w16, w64}
 use mir.Val.{Fits, SFits, toZ, ofZ}
 use mir.ValLaws.{toZ-ofZ}
+use Rattle.lines.specs.Numbers.{negated, asItIs}
 
 abbrev Whole : ℤ → Type 0
 Whole z = T (nonNeg z) × Fits w64 (natAbs z)
@@ -44,3 +46,15 @@ below {z} f h = below-zero z f (subst (λ (y : ℤ). leZ (pos 0) y ≡ false) (t
 
 pub turned-fits : {z : ℤ} → Below z → Whole (toZ w16 (65535 - ofZ w16 z))
 turned-fits b = subst⁻¹ Whole (b .is) (tt, record { fits = omega (arith, b .small) })
+
+pub turned-below : (n : ℕ) → (n ≡ 0 → ⊥) → n ≤ 32768 → some (toZ w16 (65535 - (n - 1))) ≡ negated (some n)
+unfolding negated
+turned-below zero h l = absurd (h refl)
+turned-below (suc k) h l =
+    let e : suc k - 1 ≡ k = omega arith in
+    let less : 65536 - suc (65535 - k) ≡ k = omega arith in
+    rw (e, le-ltb (65535 - k) 32768 (omega arith), less)
+
+pub held-is : (n : ℕ) → n ≤ 32767 → some (toZ w16 n) ≡ asItIs (some n)
+unfolding asItIs
+held-is n l = rw (lt-ltb n 32768 (omega arith))

@@ -1,14 +1,11 @@
-use Prim.Native.Nat.{ℕ, _+_, _*_, _-_, _≤_, _<_}
+-- `lines::write_hex` meets its contract. The loop's invariant: places stay within bounds, and a lent slice keeps its length.
+use Prim.Native.Nat.{_-_, _≤_}
 use native.Mathlib.Omega.{arith}
 use borrow.Author.Needs.{needs}
-use lib.ListN.{length, getD, length-set}
+use lib.ListN.{length, length-set}
 use mathlib.Core.Path.{_≡_}
 use Rattle.lines.proofs.write_hex.Statement.{statement}
 use Rattle.lines.proofs.write_hex.Tie as tie
-use Rattle.lines.proofs.write_hex.Reads as reads
-use Rattle.lines.proofs.write_hex.Lts as lts
-use Rattle.lines.proofs.spell_high.Reads as spell-high-reads
-use Rattle.lines.proofs.spell_low.Reads as spell-low-reads
 
 abbrev Inv-loop : tie.InvT-loop
 Inv-loop bytes out₀ at i₀ out i = (i ≤ length bytes) × (length out ≡ length out₀)
