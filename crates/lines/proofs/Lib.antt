@@ -4,3 +4,4 @@ pub mod Numbers
 pub mod Hex
 pub mod Written
 pub mod Printed
+pub mod Spelling

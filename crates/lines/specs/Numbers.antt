@@ -66,7 +66,3 @@ digitsTo (suc k) n = cond (ltb n 10) ((48 + n) ∷ []) (digitsTo k (n / 10) ++ (
 -- 64 bits take at most 20 digits
 unfoldable pub printed : ℕ → List ℕ
 printed n = digitsTo 20 n
-
-unfoldable pub printedSigned : ℤ → List ℕ
-printedSigned (pos n) = printed n
-printedSigned (negsuc n) = 45 ∷ printed (n + 1)

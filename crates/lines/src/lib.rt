@@ -13,7 +13,7 @@ ghost use Rattle.octets.specs.Octets.{writtenAt};
 ghost use Rattle.lines.specs.Words.{firstWord, afterWord, wordOf, spaceIn, wordCount};
 ghost use Rattle.lines.specs.Numbers.{digitOf, isIllLed, numberOf, negated, signedOf, told, toldSigned, printed};
 ghost use Rattle.lines.specs.Hex.{hexOf, areHex, isDash, areBytes, pairOf, bytesOf, isSingle, singleOf, glyph, hexText, hexWord};
-ghost use Rattle.lines.specs.Written.{placeAfter};
+ghost use Rattle.lines.specs.Written.{placeAfter, placeAfterSigned, writtenSigned};
 use octets::byte_at;
 
 pub enum Number {
@@ -257,7 +257,9 @@ pub fn is_single(word: &[u8]) -> bool
 }
 
 // The 32 bits of a single, most significant digit first; 0 where the word is none.
-pub fn read_single(word: &[u8]) -> u32 {
+pub fn read_single(word: &[u8]) -> u32
+    ensures { λ r. ⌜ r ≡ singleOf (now (word .entry)) ⌝ }
+{
     let mut bytes = [0u8; 4];
     let _count = read_bytes(word, &mut bytes);
     let little = [bytes[3], bytes[2], bytes[1], bytes[0]];
@@ -299,7 +301,10 @@ fn measure(n: i16) -> u64
     (!n) as u64 + 1
 }
 
-pub fn write_signed(n: i16, out: &mut [u8], at: usize) -> usize {
+pub fn write_signed(n: i16, out: &mut [u8], at: usize) -> usize
+    ensures place { λ r. ⌜ r ≡ placeAfterSigned (now (out .entry)) at n ⌝ }
+    ensures left { λ _. ⌜ now (out .exit) ≡ writtenSigned (now (out .entry)) at n ⌝ }
+{
     if 0 <= n {
         return write_number(measure(n), out, at);
     }
@@ -307,7 +312,10 @@ pub fn write_signed(n: i16, out: &mut [u8], at: usize) -> usize {
     write_number(measure(n), out, next)
 }
 
-fn write_hex(bytes: &[u8], out: &mut [u8], at: usize) -> usize {
+fn write_hex(bytes: &[u8], out: &mut [u8], at: usize) -> usize
+    ensures place { λ r. ⌜ r ≡ placeAfter (now (out .entry)) at (hexText (now (bytes .entry))) ⌝ }
+    ensures left { λ _. ⌜ now (out .exit) ≡ writtenAt (now (out .entry)) at (hexText (now (bytes .entry))) ⌝ }
+{
     if out.len() < at {
         return at;
     }
@@ -345,7 +353,10 @@ fn spell_low(byte: u8) -> u8
     spell_hex(byte % 16)
 }
 
-pub fn write_bytes(bytes: &[u8], out: &mut [u8], at: usize) -> usize {
+pub fn write_bytes(bytes: &[u8], out: &mut [u8], at: usize) -> usize
+    ensures place { λ r. ⌜ r ≡ placeAfter (now (out .entry)) at (hexWord (now (bytes .entry))) ⌝ }
+    ensures left { λ _. ⌜ now (out .exit) ≡ writtenAt (now (out .entry)) at (hexWord (now (bytes .entry))) ⌝ }
+{
     if bytes.len() == 0 {
         return write_text(b"-", out, at);
     }
