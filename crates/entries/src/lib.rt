@@ -14,19 +14,19 @@ pub struct Answered {
 
 fn answer_factor(line: &[u8], out: &mut [u8]) -> usize {
     let name = lines::word(line, 0);
-    if lines::is_same(name, b"cts") {
+    if check::same(name, b"cts") {
         return calls::answer_cts(line, out);
     }
-    if lines::is_same(name, b"cps") {
+    if check::same(name, b"cps") {
         return calls::answer_cps(line, out);
     }
-    if lines::is_same(name, b"cpl") {
+    if check::same(name, b"cpl") {
         return calls::answer_cpl(line, out);
     }
-    if lines::is_same(name, b"ticket") {
+    if check::same(name, b"ticket") {
         return calls::answer_ticket(line, out);
     }
-    if lines::is_same(name, b"live") {
+    if check::same(name, b"live") {
         return calls::answer_live(line, out);
     }
     answers::say_bad(out)
@@ -34,13 +34,13 @@ fn answer_factor(line: &[u8], out: &mut [u8]) -> usize {
 
 fn answer_draw(line: &[u8], first: &mut [u8], out: &mut [u8]) -> usize {
     let name = lines::word(line, 0);
-    if lines::is_same(name, b"draw") {
+    if check::same(name, b"draw") {
         return calls::answer_draw(line, first, out);
     }
-    if lines::is_same(name, b"fill") {
+    if check::same(name, b"fill") {
         return calls::answer_fill(line, first, out);
     }
-    if lines::is_same(name, b"passes") {
+    if check::same(name, b"passes") {
         return calls::answer_passes(line, first, out);
     }
     answer_factor(line, out)
@@ -48,19 +48,19 @@ fn answer_draw(line: &[u8], first: &mut [u8], out: &mut [u8]) -> usize {
 
 fn answer_call(line: &[u8], first: &mut [u8], second: &mut [u8], out: &mut [u8]) -> usize {
     let name = lines::word(line, 0);
-    if lines::is_same(name, b"prove") {
+    if check::same(name, b"prove") {
         return calls::answer_prove(line, first, second, out);
     }
-    if lines::is_same(name, b"runs") {
+    if check::same(name, b"runs") {
         return calls::answer_runs(line, first, out);
     }
-    if lines::is_same(name, b"run") {
+    if check::same(name, b"run") {
         return calls::answer_run(line, first, out);
     }
-    if lines::is_same(name, b"write") {
+    if check::same(name, b"write") {
         return calls::answer_write(line, first, out);
     }
-    if lines::is_same(name, b"read") {
+    if check::same(name, b"read") {
         return calls::answer_read(line, first, out);
     }
     answer_draw(line, first, out)
@@ -76,22 +76,22 @@ pub fn answer_line(
     out: &mut [u8],
 ) -> Answered {
     let name = lines::word(line, 0);
-    if lines::is_same(name, b"request") {
+    if check::same(name, b"request") {
         return keeping::answer_request(line, kept, out);
     }
-    if lines::is_same(name, b"withdraw") {
+    if check::same(name, b"withdraw") {
         return keeping::answer_withdraw(line, kept, out);
     }
-    if lines::is_same(name, b"take") {
+    if check::same(name, b"take") {
         return keeping::answer_take(line, kept, out);
     }
-    if lines::is_same(name, b"load") {
+    if check::same(name, b"load") {
         return keeping::answer_load(line, kept, out);
     }
-    if lines::is_same(name, b"empty") {
+    if check::same(name, b"empty") {
         return keeping::answer_empty(line, kept, out);
     }
-    if lines::is_same(name, b"book") {
+    if check::same(name, b"book") {
         let told = keeping::answer_book(line, kept, out);
         return Answered {
             book: kept,

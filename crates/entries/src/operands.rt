@@ -30,7 +30,7 @@ fn is_signed(signed: Signed) -> bool {
 }
 
 fn is_places(word: &[u8]) -> bool {
-    lines::is_same(word, b"4") | lines::is_same(word, b"6")
+    check::same(word, b"4") | check::same(word, b"6")
 }
 
 // A word is of its operand's type: b u8, h u16, w u32, s i16, p places, x bytes, f single.
@@ -85,7 +85,7 @@ pub(crate) fn i16_at(line: &[u8], n: usize) -> i16 {
 }
 
 pub(crate) fn places_at(line: &[u8], n: usize) -> Places {
-    if lines::is_same(lines::word(line, n), b"6") {
+    if check::same(lines::word(line, n), b"6") {
         Places::Six
     } else {
         Places::Four

@@ -1,1 +1,7 @@
 pub mod Signs
+pub mod Words
+pub mod Numbers
+pub mod Hex
+pub mod Written
+pub mod Printed
+pub mod Spelling

@@ -1,12 +1,9 @@
-use Prim.Native.Nat.{ℕ, _+_, _*_, _-_, _≤_, _<_}
-use native.Mathlib.Omega.{arith}
+-- `endakuro::end_line` is safe and ends. The loop's invariant: places stay within bounds, and a lent slice keeps its length.
+use Prim.Native.Nat.{_-_, _≤_}
 use borrow.Author.Needs.{needs}
-use lib.ListN.{length, getD, length-set}
-use mathlib.Core.Path.{_≡_}
+use lib.ListN.{length}
 use Rattle.endakuro.proofs.end_line.Statement.{statement}
 use Rattle.endakuro.proofs.end_line.Tie as tie
-use Rattle.endakuro.proofs.end_line.Reads as reads
-use Rattle.endakuro.proofs.end_line.Lts as lts
 
 abbrev Inv-loop : tie.InvT-loop
 Inv-loop s from i₀ i = (from ≤ i) × (i ≤ length s)

@@ -1,16 +1,10 @@
-use Prim.Native.Nat.{ℕ, _+_, _*_, _-_, _≤_, _<_}
-use native.Mathlib.Omega.{arith}
+-- `endakuro::serve` is safe and ends. The loop's invariant: places stay within bounds, and a lent slice keeps its length.
+use Prim.Native.Nat.{_-_}
 use borrow.Author.Needs.{needs}
-use lib.ListN.{length, getD, length-set}
+use lib.ListN.{length}
 use mathlib.Core.Path.{_≡_}
 use Rattle.endakuro.proofs.serve.Statement.{statement}
 use Rattle.endakuro.proofs.serve.Tie as tie
-use Rattle.endakuro.proofs.serve.Reads as reads
-use Rattle.endakuro.proofs.serve.Lts as lts
-use Rattle.book.proofs.Book.empty.Reads as empty-reads
-use Rattle.endakuro.proofs.count_down.Reads as count-down-reads
-use Rattle.endakuro.proofs.finish.Reads as finish-reads
-use Rattle.endakuro.proofs.take_input.Reads as take-input-reads
 
 abbrev Inv-loop : tie.InvT-loop
 Inv-loop chunk₀ line₀ first₀ second₀ out₀ kept₀ turns₀ chunk line first second out kept turns = (length chunk ≡ length chunk₀) × ((length line ≡ length line₀) × ((length first ≡ length first₀) × ((length second ≡ length second₀) × (length out ≡ length out₀))))

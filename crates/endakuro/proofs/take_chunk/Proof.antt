@@ -1,15 +1,10 @@
-use Prim.Native.Nat.{ℕ, _+_, _*_, _-_, _≤_, _<_}
-use native.Mathlib.Omega.{arith}
+-- `endakuro::take_chunk` is safe and ends. The loop's invariant: places stay within bounds, and a lent slice keeps its length.
+use Prim.Native.Nat.{_-_, _≤_}
 use borrow.Author.Needs.{needs}
-use lib.ListN.{length, getD, length-set}
+use lib.ListN.{length}
 use mathlib.Core.Path.{_≡_}
 use Rattle.endakuro.proofs.take_chunk.Statement.{statement}
 use Rattle.endakuro.proofs.take_chunk.Tie as tie
-use Rattle.endakuro.proofs.take_chunk.Reads as reads
-use Rattle.endakuro.proofs.take_chunk.Lts as lts
-use Rattle.endakuro.proofs.end_line.Reads as end-line-reads
-use Rattle.endakuro.proofs.finish.Reads as finish-reads
-use Rattle.endakuro.proofs.gather.Reads as gather-reads
 
 abbrev Inv-loop : tie.InvT-loop
 Inv-loop chunk line₀ first₀ second₀ out₀ book₀ held₀ from₀ line first second out book held from = (from ≤ length chunk) × ((length line ≡ length line₀) × ((length first ≡ length first₀) × ((length second ≡ length second₀) × (length out ≡ length out₀))))

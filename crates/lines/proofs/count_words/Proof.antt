@@ -1,16 +1,16 @@
-use Prim.Native.Nat.{ℕ, _+_, _*_, _-_, _≤_, _<_}
+-- `lines::count_words` meets its contract. The loop's invariant: the count and the words still to be counted are one more than all.
+use mathlib.Core.Path.{_≡_}
+use Prim.Native.Nat.{_+_, _-_, _≤_}
 use native.Mathlib.Omega.{arith}
 use borrow.Author.Needs.{needs}
-use lib.ListN.{length, getD, length-set}
-use mathlib.Core.Path.{_≡_}
+use lib.ListN.{length, drop}
+use Rattle.lines.specs.Words.{wordCount}
+use Rattle.lines.proofs.Words.{count-step, count-end}
 use Rattle.lines.proofs.count_words.Statement.{statement}
 use Rattle.lines.proofs.count_words.Tie as tie
-use Rattle.lines.proofs.count_words.Reads as reads
-use Rattle.lines.proofs.count_words.Lts as lts
-use Rattle.lines.proofs.count_space.Reads as count-space-reads
 
 abbrev Inv-loop : tie.InvT-loop
-Inv-loop s count₀ i₀ count i = (i ≤ length s) × (count ≤ i + 1)
+Inv-loop s count₀ i₀ count i = (count + wordCount (drop i s) ≡ wordCount s + 1) × ((i ≤ length s) × (count ≤ i + 1))
 
 abbrev μ-loop : tie.MeasureT-loop
 μ-loop s count₀ i₀ count i = length s - i
@@ -34,10 +34,10 @@ loop-less : tie.Need-loop-less Inv-loop μ-loop
 loop-less c = search needs
 
 loop-again : tie.Need-loop-again Inv-loop μ-loop
-loop-again c = search needs
+loop-again c = let l = c .before .before .before .loop in let s = c .before .before .before .before .before .args .s .now in omega (arith, count-step s (l .i) (omega arith), c .count-space .ensures .0)
 
 returns : tie.Need-returns Inv-loop μ-loop
-returns c = search needs
+returns c = let l = c .before .loop in let s = c .before .before .before .args .s .now in omega (arith, count-end s (l .i) (omega arith))
 
 pub count-words-spec : {M : Type 1} → statement M
 count-words-spec =

@@ -1,15 +1,16 @@
-use Prim.Native.Nat.{ℕ, _+_, _*_, _-_, _≤_, _<_}
+-- `lines::end_word` meets its contract. The loop's invariant: the word that began at `from` ends where the bytes left of it end.
+use mathlib.Core.Path.{_≡_, ap}
+use Prim.Native.Nat.{_+_, _-_, _≤_}
 use native.Mathlib.Omega.{arith}
 use borrow.Author.Needs.{needs}
-use lib.ListN.{length, getD, length-set}
-use mathlib.Core.Path.{_≡_}
+use lib.ListN.{length, drop}
+use Rattle.lines.specs.Words.{firstWord}
+use Rattle.lines.proofs.Words.{first-space, first-other, first-end, taken}
 use Rattle.lines.proofs.end_word.Statement.{statement}
 use Rattle.lines.proofs.end_word.Tie as tie
-use Rattle.lines.proofs.end_word.Reads as reads
-use Rattle.lines.proofs.end_word.Lts as lts
 
 abbrev Inv-loop : tie.InvT-loop
-Inv-loop s from i₀ i = (from ≤ i) × (i ≤ length s)
+Inv-loop s from i₀ i = (i + length (firstWord (drop i s)) ≡ from + length (firstWord (drop from s))) × (i ≤ length s)
 
 abbrev μ-loop : tie.MeasureT-loop
 μ-loop s from i₀ i = length s - i
@@ -21,7 +22,7 @@ shared-slice-read-if1 : tie.Need-shared-slice-read-if1 Inv-loop μ-loop
 shared-slice-read-if1 c = search needs
 
 returns : tie.Need-returns Inv-loop μ-loop
-returns c = search needs
+returns c = let i = c .before .before .before .loop .i in let s = c .before .before .before .before .args .s .now in (omega (arith, ap length (first-space s i (omega arith) (c .if1 .taken))), omega arith)
 
 add-i : tie.Need-add-i Inv-loop μ-loop
 add-i c = search needs
@@ -30,10 +31,10 @@ loop-less : tie.Need-loop-less Inv-loop μ-loop
 loop-less c = search needs
 
 loop-again : tie.Need-loop-again Inv-loop μ-loop
-loop-again c = search needs
+loop-again c = let i = c .before .before .before .loop .i in let s = c .before .before .before .before .args .s .now in (omega (arith, ap length (first-other s i (omega arith) (c .if1 .left))), omega arith)
 
 returns-2 : tie.Need-returns-2 Inv-loop μ-loop
-returns-2 c = search needs
+returns-2 c = let i = c .before .loop .i in let s = c .before .before .args .s .now in (omega (arith, ap length (first-end s i (omega arith))), omega arith)
 
 pub end-word-spec : {M : Type 1} → statement M
 end-word-spec =

@@ -1,12 +1,9 @@
 -- `lines::measure` meets its contract: below zero the complement's size is one less.
-use mathlib.Core.Path.{_≡_, sym, ap, _∙_}
+use mathlib.Core.Path.{sym, ap, _∙_}
 use Prim.Native.Nat.{ℕ, _+_}
 use native.Mathlib.Omega.{arith}
 use borrow.Author.Needs.{needs}
 use lib.IntN.{natAbs}
-use mir.Syntax.{w16}
-use mir.Val.{ofZ, toZ}
-use mir.ValLaws.{toZ-ofZ}
 use Rattle.lines.proofs.Signs.{above, below, turned-fits, Below}
 use Rattle.lines.proofs.measure.Statement.{statement}
 use Rattle.lines.proofs.measure.Tie as tie

@@ -1,23 +1,22 @@
-use Prim.Native.Nat.{ℕ, _+_, _*_, _-_, _≤_, _<_}
+-- `lines::word` meets its contract. The loop's invariant: the word is as many words on from where the loop stands as are left to pass.
+use mathlib.Core.Path.{_≡_, sym, ap, _∙_}
+use Prim.Native.Nat.{ℕ, _+_, _-_, _≤_}
 use native.Mathlib.Omega.{arith}
 use borrow.Author.Needs.{needs}
-use lib.ListN.{length, getD, length-set}
-use mathlib.Core.Path.{_≡_}
+use lib.ListN.{length, take, drop}
+use Rattle.lines.specs.Words.{firstWord, wordOf}
+use Rattle.lines.proofs.Words.{taken, word-start, word-step, word-last}
 use Rattle.lines.proofs.word.Statement.{statement}
 use Rattle.lines.proofs.word.Tie as tie
-use Rattle.lines.proofs.word.Reads as reads
-use Rattle.lines.proofs.word.Lts as lts
-use Rattle.lines.proofs.end_word.Reads as end-word-reads
-use Rattle.lines.proofs.pass_word.Reads as pass-word-reads
 
 abbrev Inv-loop : tie.InvT-loop
-Inv-loop s n at₀ i₀ at i = at ≤ length s
+Inv-loop s n at₀ i₀ at i = (wordOf n s ≡ wordOf (n - i) (drop at s)) × (at ≤ length s)
 
 abbrev μ-loop : tie.MeasureT-loop
 μ-loop s n at₀ i₀ at i = n - i
 
 loop-holds : tie.Need-loop-holds Inv-loop μ-loop
-loop-holds c = search needs
+loop-holds c = let a = c .before .args in (word-start (a .n) (a .s .now), omega arith)
 
 pass-word-requires : tie.Need-pass-word-requires Inv-loop μ-loop
 pass-word-requires c κs = search needs
@@ -29,7 +28,7 @@ loop-less : tie.Need-loop-less Inv-loop μ-loop
 loop-less c = search needs
 
 loop-again : tie.Need-loop-again Inv-loop μ-loop
-loop-again c = search needs
+loop-again c = let l = c .before .before .loop in let a = c .before .before .before .before .args in (l .inv .0 ∙ word-step (a .n) (l .i) (drop (l .at) (a .s .now)) (omega arith) ∙ ap (wordOf (a .n - (l .i + 1))) (sym (c .pass-word .ensures .0)), omega arith)
 
 end-word-requires : tie.Need-end-word-requires Inv-loop μ-loop
 end-word-requires c κs = search needs
@@ -44,7 +43,7 @@ part-result-end : tie.Need-part-result-end Inv-loop μ-loop
 part-result-end c = search needs
 
 returns : tie.Need-returns Inv-loop μ-loop
-returns c = search needs
+returns c = let l = c .before .before .before .loop in let a = c .before .before .before .before .before .args in let t = drop (l .at) (a .s .now) in let k : c .before .end-word .result - l .at ≡ length (firstWord t) = omega (arith, c .before .end-word .ensures .0) in ap (λ (m : ℕ). take m t) k ∙ taken t ∙ sym (word-last (a .n) (l .i) t (omega arith)) ∙ sym (l .inv .0)
 
 pub word-spec : {M : Type 1} → statement M
 word-spec =

@@ -1,13 +1,10 @@
-use Prim.Native.Nat.{ℕ, _+_, _*_, _-_, _≤_, _<_}
-use native.Mathlib.Omega.{arith}
+-- `entries::calls::add_volumes` is safe and ends. The loop's invariant: places stay within bounds, and a lent slice keeps its length.
+use Prim.Native.Nat.{_-_, _≤_}
 use borrow.Author.Needs.{needs}
-use lib.ListN.{length, getD, length-set}
+use lib.ListN.{length}
 use mathlib.Core.Path.{_≡_}
 use Rattle.entries.proofs.calls.add_volumes.Statement.{statement}
 use Rattle.entries.proofs.calls.add_volumes.Tie as tie
-use Rattle.entries.proofs.calls.add_volumes.Reads as reads
-use Rattle.entries.proofs.calls.add_volumes.Lts as lts
-use Rattle.entries.proofs.answers.add_wanted.Reads as add-wanted-reads
 
 abbrev Inv-loop : tie.InvT-loop
 Inv-loop count out₀ from volumes at₀ i₀ out at i = (i ≤ 20) × (length out ≡ length out₀)

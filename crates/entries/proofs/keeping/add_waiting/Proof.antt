@@ -1,15 +1,10 @@
-use Prim.Native.Nat.{ℕ, _+_, _*_, _-_, _≤_, _<_}
-use native.Mathlib.Omega.{arith}
+-- `entries::keeping::add_waiting` is safe and ends. The loop's invariant: places stay within bounds, and a lent slice keeps its length.
+use Prim.Native.Nat.{_-_, _≤_}
 use borrow.Author.Needs.{needs}
-use lib.ListN.{length, getD, length-set}
+use lib.ListN.{length}
 use mathlib.Core.Path.{_≡_}
 use Rattle.entries.proofs.keeping.add_waiting.Statement.{statement}
 use Rattle.entries.proofs.keeping.add_waiting.Tie as tie
-use Rattle.entries.proofs.keeping.add_waiting.Reads as reads
-use Rattle.entries.proofs.keeping.add_waiting.Lts as lts
-use Rattle.entries.proofs.answers.add_number.Reads as add-number-reads
-use Rattle.entries.proofs.answers.add_wanted.Reads as add-wanted-reads
-use Rattle.entries.proofs.keeping.wide.Reads as wide-reads
 
 abbrev Inv-loop : tie.InvT-loop
 Inv-loop out₀ from numbers count at₀ i₀ out at i = (i ≤ 16) × (length out ≡ length out₀)

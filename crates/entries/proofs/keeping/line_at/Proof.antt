@@ -1,14 +1,10 @@
-use Prim.Native.Nat.{ℕ, _+_, _*_, _-_, _≤_, _<_}
-use native.Mathlib.Omega.{arith}
+-- `entries::keeping::line_at` is safe and ends. The loop's invariant: places stay within bounds, and a lent slice keeps its length.
+use Prim.Native.Nat.{_-_, _≤_}
 use borrow.Author.Needs.{needs}
-use lib.ListN.{length, getD, length-set}
+use lib.ListN.{length}
 use mathlib.Core.Path.{_≡_}
 use Rattle.entries.proofs.keeping.line_at.Statement.{statement}
 use Rattle.entries.proofs.keeping.line_at.Tie as tie
-use Rattle.entries.proofs.keeping.line_at.Reads as reads
-use Rattle.entries.proofs.keeping.line_at.Lts as lts
-use Rattle.entries.proofs.operands.u32_at.Reads as u32-at-reads
-use Rattle.entries.proofs.operands.u8_at.Reads as u8-at-reads
 
 abbrev Inv-loop : tie.InvT-loop
 Inv-loop line shipper numbers₀ from i₀ numbers i = (i ≤ 16) × (length numbers ≡ 16)

@@ -1,15 +1,9 @@
-use Prim.Native.Nat.{ℕ, _+_, _*_, _-_, _≤_, _<_}
-use native.Mathlib.Omega.{arith}
+-- `entries::operands::has_form` is safe and ends. The loop's invariant: places stay within bounds, and a lent slice keeps its length.
+use Prim.Native.Nat.{_-_, _≤_}
 use borrow.Author.Needs.{needs}
-use lib.ListN.{length, getD, length-set}
-use mathlib.Core.Path.{_≡_}
+use lib.ListN.{length}
 use Rattle.entries.proofs.operands.has_form.Statement.{statement}
 use Rattle.entries.proofs.operands.has_form.Tie as tie
-use Rattle.entries.proofs.operands.has_form.Reads as reads
-use Rattle.entries.proofs.operands.has_form.Lts as lts
-use Rattle.entries.proofs.operands.is_operand.Reads as is-operand-reads
-use Rattle.lines.proofs.count_words.Reads as count-words-reads
-use Rattle.lines.proofs.word.Reads as word-reads
 
 abbrev Inv-loop : tie.InvT-loop
 Inv-loop line kinds i₀ i = i ≤ length kinds
