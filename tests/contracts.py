@@ -1,5 +1,5 @@
-"""docs/CONTRACTS.md against the crates: every public function has its row, and every label that a row names is a wrong program
-that the check tries.
+"""docs/CONTRACTS.md against the crates: every public function has its row, or stands under 'looseness' with its reason, and every
+label that a row names is a wrong program that the check tries.
 
 Run: python3 tests/contracts.py
 """
@@ -33,9 +33,13 @@ def public_functions():
                 yield "::".join([crate, *modules, *of_type, found["name"]])
 
 
+PAGE = (ROOT / "docs/CONTRACTS.md").read_text()
+LOOSE = PAGE.partition("## One outcome, and looseness")[2]
+
+
 def rows():
     """Each row of the page: a function and the labels of what it rules out."""
-    for line in (ROOT / "docs/CONTRACTS.md").read_text().splitlines():
+    for line in PAGE.splitlines():
         found = ROW.match(line)
         if found:
             yield found["function"], LABEL.findall(found["labels"])
@@ -44,7 +48,7 @@ def rows():
 def faults():
     named = dict(rows())
     for function in public_functions():
-        if function not in named:
+        if function not in named and f"`{function}`" not in LOOSE:
             yield f"{function} has no row"
     for function, labels in named.items():
         tried = {edit.stem for edit in (ROOT / "crates" / function.split("::")[0] / "must-fail").glob("*.edit")}
