@@ -4,6 +4,12 @@ ghost use Prim.Native.Nat.{_≤_, _<_};
 ghost use lib.ListN.{length};
 use book::Book;
 
+mod answers;
+mod calls;
+mod entries;
+mod keeping;
+mod operands;
+
 // What is kept from line to line: the book, how many bytes of the present line are held (one more than
 // the line's room is a line that is too long), and whether the input has ended.
 struct Kept {

@@ -1,4 +1,4 @@
--- `entries::operands::single_of` is safe and ends.
+-- `endakuro::operands::single_of` is safe and ends.
 use mathlib.Core.Path.{subst⁻¹, _∙_}
 use mathlib.Core.Bool.{Bool, not}
 use borrow.Author.Tests.{le-ltb}
@@ -6,8 +6,8 @@ use lib.Dec.{T}
 use lib.Ieee.{binary32}
 use lib.Ieee.Bits.{nanBits-above}
 use borrow.Author.Needs.{needs}
-use Rattle.entries.proofs.operands.single_of.Statement.{statement}
-use Rattle.entries.proofs.operands.single_of.Tie as tie
+use Rattle.endakuro.proofs.operands.single_of.Statement.{statement}
+use Rattle.endakuro.proofs.operands.single_of.Tie as tie
 
 returns : tie.Need-returns
 returns c = search needs

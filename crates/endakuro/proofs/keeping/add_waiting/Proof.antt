@@ -1,10 +1,10 @@
--- `entries::keeping::add_waiting` is safe and ends. The loop's invariant: places stay within bounds, and a lent slice keeps its length.
+-- `endakuro::keeping::add_waiting` is safe and ends. The loop's invariant: places stay within bounds, and a lent slice keeps its length.
 use Prim.Native.Nat.{_-_, _≤_}
 use borrow.Author.Needs.{needs}
 use lib.ListN.{length}
 use mathlib.Core.Path.{_≡_}
-use Rattle.entries.proofs.keeping.add_waiting.Statement.{statement}
-use Rattle.entries.proofs.keeping.add_waiting.Tie as tie
+use Rattle.endakuro.proofs.keeping.add_waiting.Statement.{statement}
+use Rattle.endakuro.proofs.keeping.add_waiting.Tie as tie
 
 abbrev Inv-loop : tie.InvT-loop
 Inv-loop out₀ from numbers count at₀ i₀ out at i = (i ≤ 16) × (length out ≡ length out₀)

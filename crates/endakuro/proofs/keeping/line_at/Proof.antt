@@ -1,10 +1,10 @@
--- `entries::keeping::line_at` is safe and ends. The loop's invariant: places stay within bounds, and a lent slice keeps its length.
+-- `endakuro::keeping::line_at` is safe and ends. The loop's invariant: places stay within bounds, and a lent slice keeps its length.
 use Prim.Native.Nat.{_-_, _≤_}
 use borrow.Author.Needs.{needs}
 use lib.ListN.{length}
 use mathlib.Core.Path.{_≡_}
-use Rattle.entries.proofs.keeping.line_at.Statement.{statement}
-use Rattle.entries.proofs.keeping.line_at.Tie as tie
+use Rattle.endakuro.proofs.keeping.line_at.Statement.{statement}
+use Rattle.endakuro.proofs.keeping.line_at.Tie as tie
 
 abbrev Inv-loop : tie.InvT-loop
 Inv-loop line shipper numbers₀ from i₀ numbers i = (i ≤ 16) × (length numbers ≡ 16)

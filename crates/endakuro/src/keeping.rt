@@ -1,7 +1,7 @@
 // The entries of the kept book: it goes in by value, and comes back with the place after the answer.
 ghost use Prim.Native.Nat.{_<_};
-use crate::Answered;
 use crate::answers;
+use crate::entries::Answered;
 use crate::operands;
 use book::Book;
 use book::Entry;

@@ -1,9 +1,9 @@
--- `entries::operands::has_form` is safe and ends. The loop's invariant: places stay within bounds, and a lent slice keeps its length.
+-- `endakuro::operands::has_form` is safe and ends. The loop's invariant: places stay within bounds, and a lent slice keeps its length.
 use Prim.Native.Nat.{_-_, _≤_}
 use borrow.Author.Needs.{needs}
 use lib.ListN.{length}
-use Rattle.entries.proofs.operands.has_form.Statement.{statement}
-use Rattle.entries.proofs.operands.has_form.Tie as tie
+use Rattle.endakuro.proofs.operands.has_form.Statement.{statement}
+use Rattle.endakuro.proofs.operands.has_form.Tie as tie
 
 abbrev Inv-loop : tie.InvT-loop
 Inv-loop line kinds i₀ i = i ≤ length kinds

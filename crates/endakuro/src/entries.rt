@@ -1,15 +1,13 @@
 // One line of the line program answered (docs/LINES.md), by the entry that its first word names.
+use crate::answers;
+use crate::calls;
+use crate::keeping;
 use book::Book;
 
-mod answers;
-mod calls;
-mod keeping;
-mod operands;
-
 // The book as it is kept on, and how many bytes of `out` are the answer.
-pub struct Answered {
-    pub book: Book,
-    pub length: usize,
+pub(crate) struct Answered {
+    pub(crate) book: Book,
+    pub(crate) length: usize,
 }
 
 fn answer_factor(line: &[u8], out: &mut [u8]) -> usize {
@@ -68,7 +66,7 @@ fn answer_call(line: &[u8], first: &mut [u8], second: &mut [u8], out: &mut [u8])
 
 // The line without its end, neither empty nor a comment. `first` and `second` are room for the bytes
 // that its operands spell.
-pub fn answer_line(
+pub(crate) fn answer_line(
     line: &[u8],
     kept: Book,
     first: &mut [u8],
