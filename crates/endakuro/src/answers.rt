@@ -2,16 +2,16 @@
 use refusals::Refusal;
 
 pub(crate) fn say_bad(out: &mut [u8]) -> usize {
-    lines::write_text(b"bad line", out, 0)
+    words::write_text(b"bad line", out, 0)
 }
 
 pub(crate) fn say_ok(out: &mut [u8]) -> usize {
-    lines::write_text(b"ok", out, 0)
+    words::write_text(b"ok", out, 0)
 }
 
 pub(crate) fn add_number(n: u64, out: &mut [u8], at: usize) -> usize {
-    let next = lines::write_text(b" ", out, at);
-    lines::write_number(n, out, next)
+    let next = words::write_text(b" ", out, at);
+    numerals::write_number(n, out, next)
 }
 
 // The number where it is wanted, and nothing where not.
@@ -23,18 +23,18 @@ pub(crate) fn add_wanted(wanted: bool, n: u64, out: &mut [u8], at: usize) -> usi
 }
 
 pub(crate) fn add_signed(n: i16, out: &mut [u8], at: usize) -> usize {
-    let next = lines::write_text(b" ", out, at);
-    lines::write_signed(n, out, next)
+    let next = words::write_text(b" ", out, at);
+    numerals::write_signed(n, out, next)
 }
 
 pub(crate) fn add_bytes(bytes: &[u8], out: &mut [u8], at: usize) -> usize {
-    let next = lines::write_text(b" ", out, at);
-    lines::write_bytes(bytes, out, next)
+    let next = words::write_text(b" ", out, at);
+    hex::write_bytes(bytes, out, next)
 }
 
 pub(crate) fn refuse(refusal: Refusal, out: &mut [u8]) -> usize {
     let given = refusals::give_back(refusal);
-    let at = lines::write_text(b"refused", out, 0);
+    let at = words::write_text(b"refused", out, 0);
     let next = add_number(given.number as u64, out, at);
     add_number(given.at as u64, out, next)
 }

@@ -106,8 +106,8 @@ pub(crate) fn answer_prove(
     if !operands::has_form(line, b"wbhwwwwwhxx") {
         return answers::say_bad(out);
     }
-    let size = lines::read_bytes(lines::word(line, 10), first);
-    let count = lines::read_bytes(lines::word(line, 11), second);
+    let size = hex::read_bytes(words::word(line, 10), first);
+    let count = hex::read_bytes(words::word(line, 11), second);
     prove_into(line, &second[..count], &mut first[..size], out)
 }
 
@@ -123,7 +123,7 @@ pub(crate) fn answer_runs(line: &[u8], first: &mut [u8], out: &mut [u8]) -> usiz
     if !operands::has_form(line, b"bhwwwwwhx") {
         return answers::say_bad(out);
     }
-    let count = lines::read_bytes(lines::word(line, 9), first);
+    let count = hex::read_bytes(words::word(line, 9), first);
     say_runs(line, &first[..count], out)
 }
 
@@ -162,7 +162,7 @@ pub(crate) fn answer_run(line: &[u8], first: &mut [u8], out: &mut [u8]) -> usize
     if !operands::has_form(line, b"bhwwwwwx") {
         return answers::say_bad(out);
     }
-    let count = lines::read_bytes(lines::word(line, 8), first);
+    let count = hex::read_bytes(words::word(line, 8), first);
     say_run(line, &first[..count], out)
 }
 
@@ -187,7 +187,7 @@ pub(crate) fn answer_draw(line: &[u8], first: &mut [u8], out: &mut [u8]) -> usiz
     if !operands::has_form(line, b"bhwwwwx") {
         return answers::say_bad(out);
     }
-    let count = lines::read_bytes(lines::word(line, 7), first);
+    let count = hex::read_bytes(words::word(line, 7), first);
     say_draw(line, &first[..count], out)
 }
 
@@ -214,7 +214,7 @@ pub(crate) fn answer_fill(line: &[u8], first: &mut [u8], out: &mut [u8]) -> usiz
     if !operands::has_form(line, b"bhx") {
         return answers::say_bad(out);
     }
-    let count = lines::read_bytes(lines::word(line, 3), first);
+    let count = hex::read_bytes(words::word(line, 3), first);
     say_fill(line, &first[..count], out)
 }
 
@@ -246,7 +246,7 @@ pub(crate) fn answer_passes(line: &[u8], first: &mut [u8], out: &mut [u8]) -> us
     if !operands::has_form(line, b"bhwwwwx") {
         return answers::say_bad(out);
     }
-    let count = lines::read_bytes(lines::word(line, 7), first);
+    let count = hex::read_bytes(words::word(line, 7), first);
     say_passes(line, &first[..count], out)
 }
 
@@ -332,7 +332,7 @@ pub(crate) fn answer_write(line: &[u8], first: &mut [u8], out: &mut [u8]) -> usi
     if !operands::has_form(line, b"wbbhhhhhx") {
         return answers::say_bad(out);
     }
-    let size = lines::read_bytes(lines::word(line, 9), first);
+    let size = hex::read_bytes(words::word(line, 9), first);
     write_into(line, &mut first[..size], out)
 }
 
@@ -352,6 +352,6 @@ pub(crate) fn answer_read(line: &[u8], first: &mut [u8], out: &mut [u8]) -> usiz
     if !operands::has_form(line, b"x") {
         return answers::say_bad(out);
     }
-    let count = lines::read_bytes(lines::word(line, 1), first);
+    let count = hex::read_bytes(words::word(line, 1), first);
     say_read(&first[..count], out)
 }

@@ -11,7 +11,7 @@ pub(crate) struct Answered {
 }
 
 fn answer_factor(line: &[u8], out: &mut [u8]) -> usize {
-    let name = lines::word(line, 0);
+    let name = words::word(line, 0);
     if check::same(name, b"cts") {
         return calls::answer_cts(line, out);
     }
@@ -31,7 +31,7 @@ fn answer_factor(line: &[u8], out: &mut [u8]) -> usize {
 }
 
 fn answer_draw(line: &[u8], first: &mut [u8], out: &mut [u8]) -> usize {
-    let name = lines::word(line, 0);
+    let name = words::word(line, 0);
     if check::same(name, b"draw") {
         return calls::answer_draw(line, first, out);
     }
@@ -45,7 +45,7 @@ fn answer_draw(line: &[u8], first: &mut [u8], out: &mut [u8]) -> usize {
 }
 
 fn answer_call(line: &[u8], first: &mut [u8], second: &mut [u8], out: &mut [u8]) -> usize {
-    let name = lines::word(line, 0);
+    let name = words::word(line, 0);
     if check::same(name, b"prove") {
         return calls::answer_prove(line, first, second, out);
     }
@@ -73,7 +73,7 @@ pub(crate) fn answer_line(
     second: &mut [u8],
     out: &mut [u8],
 ) -> Answered {
-    let name = lines::word(line, 0);
+    let name = words::word(line, 0);
     if check::same(name, b"request") {
         return keeping::answer_request(line, kept, out);
     }

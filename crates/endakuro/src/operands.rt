@@ -5,8 +5,8 @@ use factors::Metal;
 use factors::Pipe;
 use factors::Places;
 use factors::Prover;
-use lines::Number;
-use lines::Signed;
+use numerals::Number;
+use numerals::Signed;
 
 fn number_or_zero(number: Number) -> u32 {
     match number {
@@ -36,25 +36,25 @@ fn is_places(word: &[u8]) -> bool {
 // A word is of its operand's type: b u8, h u16, w u32, s i16, p places, x bytes, f single.
 fn is_operand(word: &[u8], kind: u8) -> bool {
     match kind {
-        b'b' => is_number(lines::read_number(word, 255)),
-        b'h' => is_number(lines::read_number(word, 65535)),
-        b'w' => is_number(lines::read_number(word, 4294967295)),
-        b's' => is_signed(lines::read_signed(word)),
+        b'b' => is_number(numerals::read_number(word, 255)),
+        b'h' => is_number(numerals::read_number(word, 65535)),
+        b'w' => is_number(numerals::read_number(word, 4294967295)),
+        b's' => is_signed(numerals::read_signed(word)),
         b'p' => is_places(word),
-        b'x' => lines::are_bytes(word),
-        b'f' => lines::is_single(word),
+        b'x' => hex::are_bytes(word),
+        b'f' => hex::is_single(word),
         _ => false,
     }
 }
 
 // As many operands as kinds, each of its kind.
 pub(crate) fn has_form(line: &[u8], kinds: &[u8]) -> bool {
-    if lines::count_words(line) != kinds.len() + 1 {
+    if words::count_words(line) != kinds.len() + 1 {
         return false;
     }
     let mut i = 0;
     while i < kinds.len() {
-        if !is_operand(lines::word(line, i + 1), kinds[i]) {
+        if !is_operand(words::word(line, i + 1), kinds[i]) {
             return false;
         }
         i += 1;
@@ -63,21 +63,21 @@ pub(crate) fn has_form(line: &[u8], kinds: &[u8]) -> bool {
 }
 
 pub(crate) fn u8_at(line: &[u8], n: usize) -> u8 {
-    let value = number_or_zero(lines::read_number(lines::word(line, n), 255));
+    let value = number_or_zero(numerals::read_number(words::word(line, n), 255));
     if value <= 255 { value as u8 } else { 0 }
 }
 
 pub(crate) fn u16_at(line: &[u8], n: usize) -> u16 {
-    let value = number_or_zero(lines::read_number(lines::word(line, n), 65535));
+    let value = number_or_zero(numerals::read_number(words::word(line, n), 65535));
     if value <= 65535 { value as u16 } else { 0 }
 }
 
 pub(crate) fn u32_at(line: &[u8], n: usize) -> u32 {
-    number_or_zero(lines::read_number(lines::word(line, n), 4294967295))
+    number_or_zero(numerals::read_number(words::word(line, n), 4294967295))
 }
 
 pub(crate) fn i16_at(line: &[u8], n: usize) -> i16 {
-    let signed = lines::read_signed(lines::word(line, n));
+    let signed = numerals::read_signed(words::word(line, n));
     match signed {
         Signed::Value(value) => value,
         Signed::Malformed => 0,
@@ -85,7 +85,7 @@ pub(crate) fn i16_at(line: &[u8], n: usize) -> i16 {
 }
 
 pub(crate) fn places_at(line: &[u8], n: usize) -> Places {
-    if check::same(lines::word(line, n), b"6") {
+    if check::same(words::word(line, n), b"6") {
         Places::Six
     } else {
         Places::Four
@@ -102,7 +102,7 @@ fn single_of(bits: u32) -> f32 {
 }
 
 pub(crate) fn single_at(line: &[u8], n: usize) -> f32 {
-    single_of(lines::read_single(lines::word(line, n)))
+    single_of(hex::read_single(words::word(line, n)))
 }
 
 // A certificate wins over the name; what is no metal is one whose coefficient is out of range.

@@ -10,4 +10,5 @@ pub mod Formulas
 pub mod Jobs
 pub mod Demand3
 pub mod OneOutcome
+pub mod GrammarOutcome
 pub mod Keeper

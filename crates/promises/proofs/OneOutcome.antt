@@ -1,7 +1,7 @@
 -- 01, 'How much a contract says': 'Every public function states its entire outcome for all inputs: what it returns, and the bytes and book
 -- left behind, also when it refuses. That no second outcome satisfies the statement is itself proved'. Of the contracts themselves:
 -- `f.Post κ a r x` is what the function f ensures of the arguments a at entry, the answer r and the arguments x at exit (κ are the
--- lifetimes of what is lent). `keeper`'s three functions are in Keeper.antt; `book::sound::is_sound`, which `book` does not export, is
+-- lifetimes of what is lent). `keeper`'s three functions are in Keeper.antt, the grammar's twelve in GrammarOutcome.antt; `book::sound::is_sound`, which `book` does not export, is
 -- `is-sound-one-outcome` of `book`.
 use mathlib.Core.Path.{_≡_, sym, _∙_}
 use mathlib.Core.List.{List}
@@ -74,7 +74,7 @@ abbrev pub OneLeft : {K : Type 0} {A R X : K → Type 0} → ((κ : K) → A κ 
 OneLeft {K} {A} {R} {X} post bytes = (κ : K) (a : A κ) (r q : R κ) (x y : X κ) → post κ a r x → post κ a q y → bytes κ x ≡ bytes κ y
 
 -- two that are equal to a third are equal
-same : {A : Type 0} {r q m : A} → r ≡ m → q ≡ m → r ≡ q
+pub same : {A : Type 0} {r q m : A} → r ≡ m → q ≡ m → r ≡ q
 same p p′ = p ∙ sym p′
 
 pub record OneOutcome : Type 0 where

@@ -1,0 +1,48 @@
+-- `numerals::write_number` meets its contract: `io::decimal` spells the definition's digits.
+use mathlib.Core.Path.{_≡_, ap, _∙_}
+use native.Mathlib.Omega.{arith}
+use lib.ListN.{take}
+use Rattle.numerals.specs.Numbers.{printed}
+use Rattle.octets.specs.Octets.{writtenAt}
+use Rattle.words.specs.Written.{placeAfter}
+use Rattle.numerals.proofs.Printed.{spelt}
+use borrow.Author.Needs.{needs}
+use Rattle.numerals.proofs.write_number.Statement.{statement}
+use Rattle.numerals.proofs.write_number.Tie as tie
+
+decimal-requires : tie.Need-decimal-requires
+decimal-requires c κs = search needs
+
+array-share-prefix-digits : tie.Need-array-share-prefix-digits
+array-share-prefix-digits c = search needs
+
+slice-aggregate-write-text : tie.Need-slice-aggregate-write-text
+slice-aggregate-write-text c = search needs
+
+write-text-requires : tie.Need-write-text-requires
+write-text-requires c κs = search needs
+
+same-length : tie.Need-same-length
+same-length c = search needs
+
+text-is : (c : tie.After-slice-known2) → take (c .before .before .before .before .before .decimal .result) (c .before .before .before .before .before .decimal .last .1 .0) ≡ printed (c .before .before .before .before .before .before .before .before .args .n)
+text-is c =
+    let d = c .before .before .before .before .before .decimal in
+    d .ensures .1 .1 ∙ spelt (d .result) (c .before .before .before .before .before .before .before .before .args .n) (d .ensures .1 .0) (omega arith)
+
+returns : tie.Need-returns
+returns c =
+    let t = text-is c in
+    let a = c .before .before .before .before .before .before .before .before .args in
+    (c .before .before .write-text .ensures .0 ∙ ap (placeAfter (a .out .now) (a .at)) t, c .before .before .write-text .ensures .1 ∙ ap (writtenAt (a .out .now) (a .at)) t)
+
+pub write-number-spec : {M : Type 1} → statement M
+write-number-spec =
+    tie.close
+    (tie.spec
+    decimal-requires
+    array-share-prefix-digits
+    slice-aggregate-write-text
+    write-text-requires
+    same-length
+    returns)
