@@ -1,0 +1,34 @@
+-- `api::water::flatten_draw` meets its contract: each case of the answer is told as it is flattened.
+use mathlib.Core.Path.{_≡_, ap, sym, _∙_}
+use borrow.Author.Needs.{needs}
+use Rattle.refusals.specs.declared.GivenBack.{GivenBack}
+use Rattle.draw.specs.Answers.{toldDraw}
+use Rattle.draw.specs.declared.WaterDraw.{WaterDraw}
+use Rattle.api.specs.Flat.{flatDraw, drawWith, noBase}
+use Rattle.api.proofs.water.flatten_draw.Statement.{statement}
+use Rattle.api.proofs.water.flatten_draw.Tie as tie
+
+enum-known-answer : tie.Need-enum-known-answer
+enum-known-answer c = search needs
+
+enum-known-answer-2 : tie.Need-enum-known-answer-2
+enum-known-answer-2 c = search needs
+
+give-back-requires : tie.Need-give-back-requires
+give-back-requires c κs = search needs
+
+cast-t6 : tie.Need-cast-t6
+cast-t6 c = search needs
+
+returns : tie.Need-returns
+unfolding flatDraw
+returns c = sym (ap (λ (a : WaterDraw). flatDraw (toldDraw a)) (c .before .answer .given .1))
+
+returns-2 : tie.Need-returns-2
+unfolding flatDraw
+returns-2 c = ap (λ (g : GivenBack). drawWith (g .number) (g .at) noBase) (c .before .give-back .ensures) ∙ sym (ap (λ (a : WaterDraw). flatDraw (toldDraw a)) (c .before .before .before .answer2 .given .1))
+
+pub flatten-draw-spec : {M : Type 1} → statement M
+flatten-draw-spec =
+    tie.close
+    (tie.spec enum-known-answer enum-known-answer-2 give-back-requires cast-t6 returns returns-2)
