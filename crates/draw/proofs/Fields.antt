@@ -1,27 +1,22 @@
 -- What a record whose fields are in range holds, as facts that arithmetic can use; and the scale reading without a number below zero.
-use mathlib.Core.Path.{_≡_, refl, sym, ap, _∙_, subst}
+use mathlib.Core.Path.{_≡_, refl, sym, ap, _∙_}
 use mathlib.Core.Bool.{true, and-true}
 use mathlib.Core.List.{List}
-use Prim.Native.Nat.{ℕ, zero, suc, _+_, _-_, _<_, _≤_}
+use Prim.Native.Nat.{ℕ, zero, suc, _+_, _-_, _≤_}
 use native.Mathlib.Omega.{arith}
-use borrow.Author.Tests.{leb-true, le-leb, le-ltb}
-use lib.Dec.{T, leb, eqb}
-use lib.IntN.{ℤ, pos, negsuc, natAbs, subℕ, _+ℤ_}
-use lib.Signed.{nonNeg, mag}
-use mir.Syntax.{w16, w64}
-use mir.Val.{SFits, Fits, toZ, ofZ}
-use mir.ValLaws.{toZ-ofZ}
+use borrow.Author.Tests.{leb-true, le-leb}
+use lib.Dec.{leb, eqb}
+use lib.IntN.{ℤ, pos, negsuc, natAbs, _+ℤ_}
+use mir.Syntax.{w16}
+use mir.Val.{toZ, ofZ}
 use Rattle.ranges.specs.Within.{withinSigned}
 use Rattle.ranges.specs.Table.{temperatureOk, drawProverOk, drawMeasureOk, coefficientOk, ctdwOk, pressureOk}
 use Rattle.ranges.proofs.Laws.{both-first, both-second, within-low, within-high}
+use Rattle.ranges.proofs.Counted.{below, passed-on}
 use Rattle.draw.specs.Fill.{fillAt, certifiedOk, scaleOk, fieldsOk, follows, ruleOk}
 use Rattle.draw.specs.declared.FillRecord.{FillRecord}
 
--- a signed number that has 16 bits is passed on by the machine as it is
-pub passed-on : (z : ℤ) → mag z < 32768 → toZ w16 (ofZ w16 z) ≡ z
-passed-on z h = toZ-ofZ w16 z (record { sfits = h })
-
--- as one in a signed range has
+-- a number in a signed range is passed on by the machine as it is
 pub within-passed-on : (a b : ℕ) (z : ℤ) → a ≤ 32767 → b ≤ 32767 → withinSigned (negsuc a) (pos b) z ≡ true → toZ w16 (ofZ w16 z) ≡ z
 within-passed-on a b (pos n) ha hb ok = let h : n ≤ b = leb-true n b ok in passed-on (pos n) (omega arith)
 within-passed-on a b (negsuc k) ha hb ok = let h : k ≤ a = leb-true k a (sym (and-true (leb k a)) ∙ ok) in passed-on (negsuc k) (omega arith)
@@ -69,29 +64,12 @@ pub record Scale (certified : ℕ) (z : ℤ) : Type 0 where
   pub high : above ≤ 20000
   pub sum : natAbs (pos certified +ℤ z) ≡ certified + above - 10000
 
-below : (n m : ℕ) → m ≤ n → subℕ n m ≡ pos (n - m)
-below n m h = rw (le-ltb n m h)
-
 pub scaled : (certified : ℕ) (z : ℤ) → 20000 ≤ certified → scaleOk z ≡ true → Scale certified z
 unfolding scaleOk
 scaled certified (pos n) low ok = let h : n ≤ 10000 = leb-true n 10000 ok in record { above = n + 10000; is = refl; high = omega arith; sum = omega arith }
 scaled certified (negsuc k) low ok =
     let h : k ≤ 9999 = leb-true k 9999 (sym (and-true (leb k 9999)) ∙ ok) in
     record { above = 10000 - suc k; is = below 10000 (suc k) (omega arith); high = omega arith; sum = ap natAbs (below certified (suc k) (omega arith)) ∙ omega arith }
-
--- the machine's sum and cast give a count from -k on
-module _ (k : ℕ) {z : ℤ} {above : ℕ} (back : toZ w16 (ofZ w16 z) ≡ z) (is : z +ℤ pos k ≡ pos above) (high : above ≤ 32767) where
-  sum-is : toZ w16 (ofZ w16 z) +ℤ pos k ≡ pos above
-  sum-is = ap (λ (x : ℤ). x +ℤ pos k) back ∙ is
-
-  pub sum-fits : SFits w16 (toZ w16 (ofZ w16 z) +ℤ pos k)
-  sum-fits = subst (λ (x : ℤ). SFits w16 x) (sym sum-is) (record { sfits = omega arith })
-
-  pub cast-is : toZ w16 (ofZ w16 (toZ w16 (ofZ w16 z) +ℤ pos k)) ≡ pos above
-  cast-is = toZ-ofZ w16 (toZ w16 (ofZ w16 z) +ℤ pos k) sum-fits ∙ sum-is
-
-  pub cast-fits : T (nonNeg (toZ w16 (ofZ w16 (toZ w16 (ofZ w16 z) +ℤ pos k)))) × Fits w64 (natAbs (toZ w16 (ofZ w16 (toZ w16 (ofZ w16 z) +ℤ pos k))))
-  cast-fits = subst (λ (x : ℤ). T (nonNeg x) × Fits w64 (natAbs x)) (sym cast-is) (tt, record { fits = omega arith })
 
 -- the pass rule, by the record before
 pub rule-first : (s : List ℕ) {i : ℕ} {fill : FillRecord} → i ≡ 0 → fill ≡ fillAt s i → eqb (fill .pass) 1 ≡ ruleOk s i

@@ -10,11 +10,9 @@ use borrow.Author.Tests.{leb-true, lt-ltb, le-ltb}
 use lib.Dec.{T, leb, ltb}
 use lib.IntN.{ℤ, pos, negsuc, negℤ, natAbs, subℕ, _+ℤ_, _-ℤ_, _*ℤ_, +ℤ-negℤ-cancel, +ℤ-assoc}
 use lib.Signed.{nonNeg, mag}
-use mir.Syntax.{w16, w64}
-use mir.Val.{SFits, Fits, toZ, ofZ}
-use mir.ValLaws.{toZ-ofZ}
 use Rattle.ranges.specs.Table.{temperatureOk, pressureOk, diameterOk, wallOk, modulusOk}
 use Rattle.ranges.proofs.Laws.{both-first, both-second, within-low, within-high}
+use Rattle.ranges.proofs.Counted.{below}
 use Rattle.factors.specs.Answers.{pipeOk}
 use Rattle.factors.specs.declared.Pipe.{Pipe}
 
@@ -22,9 +20,6 @@ use Rattle.factors.specs.declared.Pipe.{Pipe}
 minus : (a m : ℕ) → m ≤ a → natAbs (pos a +ℤ negℤ (pos m)) ≡ a - m
 minus a zero h = omega arith
 minus a (suc m) h = rw (le-ltb a (suc m) h)
-
-below : (n m : ℕ) → m ≤ n → subℕ n m ≡ pos (n - m)
-below n m h = rw (le-ltb n m h)
 
 -- a temperature in range, in 0.1 °F above -100.0 °F
 pub record Warm (t : ℤ) : Type 0 where
@@ -61,20 +56,6 @@ pub parts : {t : ℤ} (gc : ℕ) → gc ≤ 400 → (w : Warm t) → natAbs (pos
 parts gc small w =
     ap (λ (z : ℤ). natAbs (pos 100000000 +ℤ z *ℤ pos gc)) (from-sixty w)
     ∙ by-cases (decLt (w .above) 1600) (λ h. colder (w .above) gc small h (w .low)) (λ h. warmer (w .above) gc small (omega arith))
-
--- the machine's sum and cast give that count
-module _ {t : ℤ} (f : SFits w16 t) (w : Warm t) where
-  sum-is : toZ w16 (ofZ w16 t) +ℤ pos 1000 ≡ pos (w .above)
-  sum-is = ap (λ (z : ℤ). z +ℤ pos 1000) (toZ-ofZ w16 t f) ∙ w .is
-
-  pub sum-fits : SFits w16 (toZ w16 (ofZ w16 t) +ℤ pos 1000)
-  sum-fits = subst (λ (z : ℤ). SFits w16 z) (sym sum-is) (record { sfits = omega (arith, w .high) })
-
-  pub cast-is : toZ w16 (ofZ w16 (toZ w16 (ofZ w16 t) +ℤ pos 1000)) ≡ pos (w .above)
-  cast-is = toZ-ofZ w16 (toZ w16 (ofZ w16 t) +ℤ pos 1000) sum-fits ∙ sum-is
-
-  pub cast-fits : T (nonNeg (toZ w16 (ofZ w16 (toZ w16 (ofZ w16 t) +ℤ pos 1000)))) × Fits w64 (natAbs (toZ w16 (ofZ w16 (toZ w16 (ofZ w16 t) +ℤ pos 1000))))
-  cast-fits = subst (λ (z : ℤ). T (nonNeg z) × Fits w64 (natAbs z)) (sym cast-is) (tt, record { fits = omega (arith, w .high) })
 
 -- the pipe's stiffness E × WT and its load P × ID
 pub record Loads (pipe : Pipe) (p : ℕ) : Type 0 where

@@ -15,11 +15,12 @@ use Rattle.refusals.proofs.Laws.{judged-fine, judged-fault, demand-holds, deman
 use Rattle.ranges.specs.Within.{withinSigned}
 use Rattle.ranges.specs.Table.{temperatureOk, coefficientOk}
 use Rattle.ranges.proofs.Laws.{within-high}
+use Rattle.ranges.proofs.Counted.{sum-fits, cast-is, cast-fits}
 use Rattle.factors.specs.Metal.{coefficientOf, metalOk}
 use Rattle.factors.specs.Places.{digits}
 use Rattle.factors.specs.Fractions.{cts}
 use Rattle.factors.specs.Answers.{told, ctsOf}
-use Rattle.factors.proofs.Steel.{Warm, warm, parts, sum-fits, cast-is, cast-fits}
+use Rattle.factors.proofs.Steel.{Warm, warm, parts}
 use Rattle.factors.proofs.cts.Statement.{statement}
 use Rattle.factors.proofs.cts.Tie as tie
 
@@ -60,8 +61,14 @@ warmth c = warm (start c .args .t) (temperature-fits c)
 abbrev above : tie.Then2 → ℕ
 above c = natAbs (toZ w16 (ofZ w16 (toZ w16 (ofZ w16 (start c .args .t)) +ℤ pos 1000)))
 
+back : (c : tie.Then2) → toZ w16 (ofZ w16 (start c .args .t)) ≡ start c .args .t
+back c = toZ-ofZ w16 (start c .args .t) (start c .fits .t)
+
+high : (c : tie.Then2) → warmth c .above ≤ 32767
+high c = omega (arith, warmth c .high)
+
 above-is : (c : tie.Then2) → above c ≡ warmth c .above
-above-is c = ap natAbs (cast-is (start c .fits .t) (warmth c))
+above-is c = ap natAbs (cast-is 1000 (back c) (warmth c .is) (high c))
 
 record Product (above gc : ℕ) : Type 0 where
   most : above * gc ≤ 1200000
@@ -83,10 +90,10 @@ numerator : (c : tie.After-coefficient) → 100000000 + above (c .before) * c .c
 numerator c = (λ i. 100000000 + above-is (c .before) i * c .coefficient .ensures i - 1600 * c .coefficient .ensures i) ∙ sym (parts _ (small (c .before)) (warmth (c .before)))
 
 add-above : tie.Need-add-above
-add-above c = sum-fits (start (c .before) .fits .t) (warmth (c .before))
+add-above c = let s = c .before in sum-fits 1000 (back s) (warmth s .is) (high s)
 
 cast-above : tie.Need-cast-above
-cast-above c = cast-fits (start (c .before) .fits .t) (warmth (c .before))
+cast-above c = let s = c .before in cast-fits 1000 (back s) (warmth s .is) (high s)
 
 mul-round : tie.Need-mul-round
 mul-round c = omega (arith, product c)

@@ -8,7 +8,8 @@ use mir.Syntax.{w16}
 use mir.Val.{toZ, ofZ}
 use Rattle.draw.specs.Fill.{scaleOk}
 use Rattle.draw.specs.Drawn.{adjusted}
-use Rattle.draw.proofs.Fields.{Fields, fields, Scale, scaled, within-passed-on, sum-fits, cast-is, cast-fits}
+use Rattle.ranges.proofs.Counted.{sum-fits, cast-is, cast-fits}
+use Rattle.draw.proofs.Fields.{Fields, fields, Scale, scaled, within-passed-on}
 use Rattle.draw.proofs.fills.adjust.Statement.{statement}
 use Rattle.draw.proofs.fills.adjust.Tie as tie
 

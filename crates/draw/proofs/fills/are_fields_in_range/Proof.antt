@@ -10,7 +10,7 @@ use mir.Val.{toZ, ofZ}
 use Rattle.ranges.specs.Within.{withinSigned}
 use Rattle.ranges.specs.Table.{drawProverOk, drawMeasureOk, coefficientOk, ctdwOk, pressureOk}
 use Rattle.draw.specs.Fill.{fieldsOk, certifiedOk, scaleOk}
-use Rattle.draw.proofs.Fields.{passed-on}
+use Rattle.ranges.proofs.Counted.{passed-on}
 use Rattle.draw.proofs.fills.are_fields_in_range.Statement.{statement}
 use Rattle.draw.proofs.fills.are_fields_in_range.Tie as tie
 

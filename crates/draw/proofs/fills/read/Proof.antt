@@ -7,7 +7,7 @@ use lib.Signed.{mag}
 use mir.Syntax.{w16}
 use mir.Val.{toZ, ofZ}
 use Rattle.draw.specs.Fill.{fillAt, fillFrom}
-use Rattle.draw.proofs.Fields.{passed-on}
+use Rattle.ranges.proofs.Counted.{passed-on}
 use Rattle.draw.proofs.fills.read.Statement.{statement}
 use Rattle.draw.proofs.fills.read.Tie as tie
 
