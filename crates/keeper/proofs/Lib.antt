@@ -1,1 +1,3 @@
 pub mod Lent
+pub mod Beside
+pub mod Changing
