@@ -74,7 +74,7 @@ abbrev pub OneLeft : {K : Type 0} {A R X : K → Type 0} → ((κ : K) → A κ 
 OneLeft {K} {A} {R} {X} post bytes = (κ : K) (a : A κ) (r q : R κ) (x y : X κ) → post κ a r x → post κ a q y → bytes κ x ≡ bytes κ y
 
 -- two that are equal to a third are equal
-same : {A : Type 0} {r q m : A} → r ≡ m → q ≡ m → r ≡ q
+pub same : {A : Type 0} {r q m : A} → r ≡ m → q ≡ m → r ≡ q
 same p p′ = p ∙ sym p′
 
 pub record OneOutcome : Type 0 where
