@@ -92,29 +92,34 @@ not-zero NotWaiting is = omega arith
 not-zero NothingToTake is = omega arith
 
 -- what is told is done, or refused with a number that is not 0
-abbrev Given : {A : Type 0} → Told A → Type 0
-Given (done values) = Unit {0}
-Given (refused number at) = number ≡ 0 → ⊥
+abbrev pub Numbered : {A : Type 0} → Told A → Type 0
+Numbered (done values) = Unit {0}
+Numbered (refused number at) = number ≡ 0 → ⊥
+
+-- so a caller may go by the number alone: at 0 the values are the answer's
+pub zero-is-done : {A : Type 0} (zeros : A) (t : Told A) → Numbered t → numberIn t ≡ 0 → t ≡ done (valuesIn zeros t)
+zero-is-done zeros (done values) numbered is = refl
+zero-is-done zeros (refused number at) numbered is = absurd (numbered is)
 
 -- the number, the record and the values fix what was told
-told-one : {A : Type 0} (zeros : A) (t u : Told A) → Given t → Given u → numberIn t ≡ numberIn u → recordIn t ≡ recordIn u → valuesIn zeros t ≡ valuesIn zeros u → t ≡ u
+told-one : {A : Type 0} (zeros : A) (t u : Told A) → Numbered t → Numbered u → numberIn t ≡ numberIn u → recordIn t ≡ recordIn u → valuesIn zeros t ≡ valuesIn zeros u → t ≡ u
 told-one zeros (done x) (done y) p q number at values = ap done values
 told-one zeros (done x) (refused n a) p q number at values = absurd (q (sym number))
 told-one zeros (refused n a) (done y) p q number at values = absurd (p number)
 told-one zeros (refused n a) (refused m b) p q number at values = λ i. refused (number i) (at i)
 
-factor-given : (a : Factor) → Given (toldFactor a)
-factor-given (factor.Value value) = tt
-factor-given (factor.Refused why) = not-zero why
+pub factor-numbered : (a : Factor) → Numbered (toldFactor a)
+factor-numbered (factor.Value value) = tt
+factor-numbered (factor.Refused why) = not-zero why
 
 pub factor-loses-nothing : (a b : Factor) → flatFactor (toldFactor a) ≡ flatFactor (toldFactor b) → a ≡ b
 unfolding flatFactor
 factor-loses-nothing a b is =
-    factor-one a b (told-one 0 _ _ (factor-given a) (factor-given b) (ap (λ (f : EndakuroFactor). f .number) is) (ap (λ (f : EndakuroFactor). f .at) is) (ap (λ (f : EndakuroFactor). f .value) is))
+    factor-one a b (told-one 0 _ _ (factor-numbered a) (factor-numbered b) (ap (λ (f : EndakuroFactor). f .number) is) (ap (λ (f : EndakuroFactor). f .at) is) (ap (λ (f : EndakuroFactor). f .value) is))
 
-report-given : (a : Answer) → Given (toldReport a)
-report-given (answer.Fields report) = tt
-report-given (answer.Refused why) = not-zero why
+pub report-numbered : (a : Answer) → Numbered (toldReport a)
+report-numbered (answer.Fields report) = tt
+report-numbered (answer.Refused why) = not-zero why
 
 -- a report's fields, read back from the struct
 reportIn : EndakuroReport → Report
@@ -123,11 +128,11 @@ reportIn f = record { number = f .request; factor = f .factor; first = f .first;
 pub report-loses-nothing : (a b : Answer) → flatReport (toldReport a) ≡ flatReport (toldReport b) → a ≡ b
 unfolding flatReport reportIn
 report-loses-nothing a b is =
-    report-one a b (told-one noReport _ _ (report-given a) (report-given b) (ap (λ (f : EndakuroReport). f .number) is) (ap (λ (f : EndakuroReport). f .at) is) (ap reportIn is))
+    report-one a b (told-one noReport _ _ (report-numbered a) (report-numbered b) (ap (λ (f : EndakuroReport). f .number) is) (ap (λ (f : EndakuroReport). f .at) is) (ap reportIn is))
 
-run-given : (a : Worked) → Given (toldRun a)
-run-given (worked.Figures figures) = tt
-run-given (worked.Refused why) = not-zero why
+pub run-numbered : (a : Worked) → Numbered (toldRun a)
+run-numbered (worked.Figures figures) = tt
+run-numbered (worked.Refused why) = not-zero why
 
 figuresIn : EndakuroRun → Figures
 figuresIn f =
@@ -143,11 +148,11 @@ figuresIn f =
 pub run-loses-nothing : (a b : Worked) → flatRun (toldRun a) ≡ flatRun (toldRun b) → a ≡ b
 unfolding flatRun figuresIn
 run-loses-nothing a b is =
-    run-one a b (told-one noFigures _ _ (run-given a) (run-given b) (ap (λ (f : EndakuroRun). f .number) is) (ap (λ (f : EndakuroRun). f .at) is) (ap figuresIn is))
+    run-one a b (told-one noFigures _ _ (run-numbered a) (run-numbered b) (ap (λ (f : EndakuroRun). f .number) is) (ap (λ (f : EndakuroRun). f .at) is) (ap figuresIn is))
 
-fill-given : (a : FillAnswer) → Given (toldFill a)
-fill-given (filled.Figures figures) = tt
-fill-given (filled.Refused why) = not-zero why
+pub fill-numbered : (a : FillAnswer) → Numbered (toldFill a)
+fill-numbered (filled.Figures figures) = tt
+fill-numbered (filled.Refused why) = not-zero why
 
 fillIn : EndakuroFill → FillFigures
 fillIn f = record { adjusted = f .adjusted; measure = f .measure; prover = f .prover; ccts = f .ccts; drawn = f .drawn }
@@ -155,21 +160,21 @@ fillIn f = record { adjusted = f .adjusted; measure = f .measure; prover = f .pr
 pub fill-loses-nothing : (a b : FillAnswer) → flatFill (toldFill a) ≡ flatFill (toldFill b) → a ≡ b
 unfolding flatFill fillIn
 fill-loses-nothing a b is =
-    fill-one a b (told-one noFill _ _ (fill-given a) (fill-given b) (ap (λ (f : EndakuroFill). f .number) is) (ap (λ (f : EndakuroFill). f .at) is) (ap fillIn is))
+    fill-one a b (told-one noFill _ _ (fill-numbered a) (fill-numbered b) (ap (λ (f : EndakuroFill). f .number) is) (ap (λ (f : EndakuroFill). f .at) is) (ap fillIn is))
 
-passes-given : (a : Counted) → Given (toldPasses a)
-passes-given (counted.Passes count) = tt
-passes-given (counted.Refused why) = not-zero why
+pub passes-numbered : (a : Counted) → Numbered (toldPasses a)
+passes-numbered (counted.Passes count) = tt
+passes-numbered (counted.Refused why) = not-zero why
 
 -- the answer and the volumes
 pub passes-lose-nothing : (a b : Counted) (v w : List ℕ) → flatPasses (toldPasses a) v ≡ flatPasses (toldPasses b) w → (a ≡ b) × (v ≡ w)
 unfolding flatPasses
 passes-lose-nothing a b v w is =
-    (passes-one a b (told-one 0 _ _ (passes-given a) (passes-given b) (ap (λ (f : EndakuroPasses). f .number) is) (ap (λ (f : EndakuroPasses). f .at) is) (ap (λ (f : EndakuroPasses). f .count) is)), ap (λ (f : EndakuroPasses). f .volumes) is)
+    (passes-one a b (told-one 0 _ _ (passes-numbered a) (passes-numbered b) (ap (λ (f : EndakuroPasses). f .number) is) (ap (λ (f : EndakuroPasses). f .at) is) (ap (λ (f : EndakuroPasses). f .count) is)), ap (λ (f : EndakuroPasses). f .volumes) is)
 
-draw-given : (a : WaterDraw) → Given (toldDraw a)
-draw-given (drawn.Drawn base) = tt
-draw-given (drawn.Refused why) = not-zero why
+pub draw-numbered : (a : WaterDraw) → Numbered (toldDraw a)
+draw-numbered (drawn.Drawn base) = tt
+draw-numbered (drawn.Refused why) = not-zero why
 
 baseIn : EndakuroDraw → BaseVolume
 baseIn f = record { base = f .base; barrels = f .barrels; first = f .first }
@@ -177,11 +182,11 @@ baseIn f = record { base = f .base; barrels = f .barrels; first = f .first }
 pub draw-loses-nothing : (a b : WaterDraw) → flatDraw (toldDraw a) ≡ flatDraw (toldDraw b) → a ≡ b
 unfolding flatDraw baseIn
 draw-loses-nothing a b is =
-    draw-one a b (told-one noBase _ _ (draw-given a) (draw-given b) (ap (λ (f : EndakuroDraw). f .number) is) (ap (λ (f : EndakuroDraw). f .at) is) (ap baseIn is))
+    draw-one a b (told-one noBase _ _ (draw-numbered a) (draw-numbered b) (ap (λ (f : EndakuroDraw). f .number) is) (ap (λ (f : EndakuroDraw). f .at) is) (ap baseIn is))
 
-ticket-given : (a : Outcome) → Given (toldTicket a)
-ticket-given (outcome.Worked volumes) = tt
-ticket-given (outcome.Refused why) = not-zero why
+pub ticket-numbered : (a : Outcome) → Numbered (toldTicket a)
+ticket-numbered (outcome.Worked volumes) = tt
+ticket-numbered (outcome.Refused why) = not-zero why
 
 volumesOf : EndakuroVolumes → Volumes
 volumesOf f = record { factor = f .factor; gross = f .gross; net = f .net }
@@ -189,12 +194,12 @@ volumesOf f = record { factor = f .factor; gross = f .gross; net = f .net }
 pub ticket-loses-nothing : (a b : Outcome) → flatVolumes (toldTicket a) ≡ flatVolumes (toldTicket b) → a ≡ b
 unfolding flatVolumes volumesOf
 ticket-loses-nothing a b is =
-    ticket-one a b (told-one noVolumes _ _ (ticket-given a) (ticket-given b) (ap (λ (f : EndakuroVolumes). f .number) is) (ap (λ (f : EndakuroVolumes). f .at) is) (ap volumesOf is))
+    ticket-one a b (told-one noVolumes _ _ (ticket-numbered a) (ticket-numbered b) (ap (λ (f : EndakuroVolumes). f .number) is) (ap (λ (f : EndakuroVolumes). f .at) is) (ap volumesOf is))
 
-live-given : (a : Live) → Given (toldLive a)
+pub live-numbered : (a : Live) → Numbered (toldLive a)
 unfolding toldLive
-live-given (live.Whole tenths psi) = tt
-live-given (live.Refused why) = not-zero why
+live-numbered (live.Whole tenths psi) = tt
+live-numbered (live.Refused why) = not-zero why
 
 -- a pressure that is told is not below zero, so that its size is the pressure
 psi-kept : (a : Live) → pos (natAbs (valuesIn noReading (toldLive a) .psi)) ≡ valuesIn noReading (toldLive a) .psi
@@ -206,11 +211,11 @@ pub live-loses-nothing : (a b : Live) → flatLive (toldLive a) ≡ flatLive (to
 unfolding flatLive
 live-loses-nothing a b is =
     let psi = sym (psi-kept a) ∙ ap (λ (f : EndakuroLive). pos (f .psi)) is ∙ psi-kept b in
-    live-one a b (told-one noReading _ _ (live-given a) (live-given b) (ap (λ (f : EndakuroLive). f .number) is) (ap (λ (f : EndakuroLive). f .at) is) (λ i. record { tenths = is i .tenths; psi = psi i }))
+    live-one a b (told-one noReading _ _ (live-numbered a) (live-numbered b) (ap (λ (f : EndakuroLive). f .number) is) (ap (λ (f : EndakuroLive). f .at) is) (λ i. record { tenths = is i .tenths; psi = psi i }))
 
-entry-given : (a : Entry) → Given (toldEntry a)
-entry-given entry.Entered = tt
-entry-given (entry.Refused why) = not-zero why
+pub entry-numbered : (a : Entry) → Numbered (toldEntry a)
+entry-numbered entry.Entered = tt
+entry-numbered (entry.Refused why) = not-zero why
 
 nothing-one : (x y : Unit {0}) → x ≡ y
 nothing-one x y = refl
@@ -218,20 +223,20 @@ nothing-one x y = refl
 pub entry-loses-nothing : (a b : Entry) → flatDone (toldEntry a) ≡ flatDone (toldEntry b) → a ≡ b
 unfolding flatDone
 entry-loses-nothing a b is =
-    entry-one a b (told-one tt _ _ (entry-given a) (entry-given b) (ap (λ (f : EndakuroDone). f .number) is) (ap (λ (f : EndakuroDone). f .at) is) (nothing-one _ _))
+    entry-one a b (told-one tt _ _ (entry-numbered a) (entry-numbered b) (ap (λ (f : EndakuroDone). f .number) is) (ap (λ (f : EndakuroDone). f .at) is) (nothing-one _ _))
 
-withdrawal-given : (a : Withdrawal) → Given (toldWithdrawal a)
-withdrawal-given withdrawal.Withdrawn = tt
-withdrawal-given (withdrawal.Refused why) = not-zero why
+pub withdrawal-numbered : (a : Withdrawal) → Numbered (toldWithdrawal a)
+withdrawal-numbered withdrawal.Withdrawn = tt
+withdrawal-numbered (withdrawal.Refused why) = not-zero why
 
 pub withdrawal-loses-nothing : (a b : Withdrawal) → flatDone (toldWithdrawal a) ≡ flatDone (toldWithdrawal b) → a ≡ b
 unfolding flatDone
 withdrawal-loses-nothing a b is =
-    withdrawal-one a b (told-one tt _ _ (withdrawal-given a) (withdrawal-given b) (ap (λ (f : EndakuroDone). f .number) is) (ap (λ (f : EndakuroDone). f .at) is) (nothing-one _ _))
+    withdrawal-one a b (told-one tt _ _ (withdrawal-numbered a) (withdrawal-numbered b) (ap (λ (f : EndakuroDone). f .number) is) (ap (λ (f : EndakuroDone). f .at) is) (nothing-one _ _))
 
-take-given : (a : Handout) → Given (toldTake a)
-take-given (handout.Handed shipper number) = tt
-take-given (handout.Refused why) = not-zero why
+pub take-numbered : (a : Handout) → Numbered (toldTake a)
+take-numbered (handout.Handed shipper number) = tt
+take-numbered (handout.Refused why) = not-zero why
 
 handedIn : EndakuroTaken → Handed
 handedIn f = record { shipper = f .shipper; number = f .request }
@@ -239,7 +244,7 @@ handedIn f = record { shipper = f .shipper; number = f .request }
 pub take-loses-nothing : (a b : Handout) → flatTaken (toldTake a) ≡ flatTaken (toldTake b) → a ≡ b
 unfolding flatTaken handedIn
 take-loses-nothing a b is =
-    handout-one a b (told-one noHandout _ _ (take-given a) (take-given b) (ap (λ (f : EndakuroTaken). f .number) is) (ap (λ (f : EndakuroTaken). f .at) is) (ap handedIn is))
+    handout-one a b (told-one noHandout _ _ (take-numbered a) (take-numbered b) (ap (λ (f : EndakuroTaken). f .number) is) (ap (λ (f : EndakuroTaken). f .at) is) (ap handedIn is))
 
 -- start and length in the lent records are the accepted runs
 part-accepted : (t : Told ℕ) (s : List ℕ) → take (partOf t .length) (drop (partOf t .start) s) ≡ acceptedBy t s
