@@ -1,13 +1,13 @@
--- `api::books::flatten_entry` meets its contract: each case of the answer is told as it is flattened.
+-- `api::books::flatten_change` meets its contract: each case of the answer is told as it is flattened.
 use mathlib.Core.Path.{_≡_, ap, sym, _∙_}
 use borrow.Author.Needs.{needs}
 use Rattle.refusals.specs.declared.GivenBack.{GivenBack}
-use Rattle.book.specs.Answers.{toldEntry}
-use Rattle.book.specs.declared.Entry.{Entry}
+use Rattle.book.specs.Answers.{toldChange}
+use Rattle.book.specs.declared.Change.{Change}
 use Rattle.api.specs.Flat.{flatDone}
 use Rattle.api.specs.declared.books.EndakuroDone.{EndakuroDone}
-use Rattle.api.proofs.books.flatten_entry.Statement.{statement}
-use Rattle.api.proofs.books.flatten_entry.Tie as tie
+use Rattle.api.proofs.books.flatten_change.Statement.{statement}
+use Rattle.api.proofs.books.flatten_change.Tie as tie
 
 enum-told : tie.Need-enum-told
 enum-told c = search needs
@@ -23,14 +23,14 @@ cast-t5 c = search needs
 
 returns : tie.Need-returns
 unfolding flatDone
-returns c = sym (ap (λ (a : Entry). flatDone (toldEntry a)) (c .enum-told .given .1))
+returns c = sym (ap (λ (a : Change). flatDone (toldChange a)) (c .enum-told .given .1))
 
 returns-2 : tie.Need-returns-2
 unfolding flatDone
 returns-2 c =
     (λ i. record { number = c .before .give-back .ensures i .number; at = c .before .give-back .ensures i .at })
-    ∙ sym (ap (λ (a : Entry). flatDone (toldEntry a)) (c .before .before .before .answer .given .1))
+    ∙ sym (ap (λ (a : Change). flatDone (toldChange a)) (c .before .before .before .answer .given .1))
 
-pub flatten-entry-spec : {M : Type 1} → statement M
-flatten-entry-spec =
+pub flatten-change-spec : {M : Type 1} → statement M
+flatten-change-spec =
     tie.close (tie.spec enum-told enum-known-answer give-back-requires cast-t5 returns returns-2)
