@@ -44,14 +44,12 @@ use Rattle.live.specs.Live.{Values, told as toldLive}
 use Rattle.live.specs.declared.Live.{Live}
 use Rattle.live.specs.declared.Live.the-variants as live
 use Rattle.live.proofs.Answers.{told-one as live-one}
-use Rattle.book.specs.Answers.{Handed, toldEntry, toldWithdrawal, toldTake}
-use Rattle.book.specs.declared.Entry.{Entry}
-use Rattle.book.specs.declared.Entry.the-variants as entry
-use Rattle.book.specs.declared.Withdrawal.{Withdrawal}
-use Rattle.book.specs.declared.Withdrawal.the-variants as withdrawal
+use Rattle.book.specs.Answers.{Handed, toldChange, toldTake}
+use Rattle.book.specs.declared.Change.{Change}
+use Rattle.book.specs.declared.Change.the-variants as change
 use Rattle.book.specs.declared.Handout.{Handout}
 use Rattle.book.specs.declared.Handout.the-variants as handout
-use Rattle.book.proofs.Outcomes.{entry-one, withdrawal-one, handout-one}
+use Rattle.book.proofs.Outcomes.{change-one, handout-one}
 use Rattle.proving.specs.Job.{foundOf, acceptedBy, acceptedOf}
 use Rattle.api.specs.Flat.{numberIn, recordIn, valuesIn, noReport, noFigures, noFill, noBase, noVolumes, noReading, noHandout, flatFactor, flatReport, flatRun, flatFill, flatPasses, flatDraw, flatVolumes, flatLive, flatDone, flatTaken, partOf}
 use Rattle.api.specs.declared.corrections.EndakuroFactor.{EndakuroFactor}
@@ -213,26 +211,17 @@ live-loses-nothing a b is =
     let psi = sym (psi-kept a) ∙ ap (λ (f : EndakuroLive). pos (f .psi)) is ∙ psi-kept b in
     live-one a b (told-one noReading _ _ (live-numbered a) (live-numbered b) (ap (λ (f : EndakuroLive). f .number) is) (ap (λ (f : EndakuroLive). f .at) is) (λ i. record { tenths = is i .tenths; psi = psi i }))
 
-pub entry-numbered : (a : Entry) → Numbered (toldEntry a)
-entry-numbered entry.Entered = tt
-entry-numbered (entry.Refused why) = not-zero why
+pub change-numbered : (a : Change) → Numbered (toldChange a)
+change-numbered change.Made = tt
+change-numbered (change.Refused why) = not-zero why
 
 nothing-one : (x y : Unit {0}) → x ≡ y
 nothing-one x y = refl
 
-pub entry-loses-nothing : (a b : Entry) → flatDone (toldEntry a) ≡ flatDone (toldEntry b) → a ≡ b
+pub change-loses-nothing : (a b : Change) → flatDone (toldChange a) ≡ flatDone (toldChange b) → a ≡ b
 unfolding flatDone
-entry-loses-nothing a b is =
-    entry-one a b (told-one tt _ _ (entry-numbered a) (entry-numbered b) (ap (λ (f : EndakuroDone). f .number) is) (ap (λ (f : EndakuroDone). f .at) is) (nothing-one _ _))
-
-pub withdrawal-numbered : (a : Withdrawal) → Numbered (toldWithdrawal a)
-withdrawal-numbered withdrawal.Withdrawn = tt
-withdrawal-numbered (withdrawal.Refused why) = not-zero why
-
-pub withdrawal-loses-nothing : (a b : Withdrawal) → flatDone (toldWithdrawal a) ≡ flatDone (toldWithdrawal b) → a ≡ b
-unfolding flatDone
-withdrawal-loses-nothing a b is =
-    withdrawal-one a b (told-one tt _ _ (withdrawal-numbered a) (withdrawal-numbered b) (ap (λ (f : EndakuroDone). f .number) is) (ap (λ (f : EndakuroDone). f .at) is) (nothing-one _ _))
+change-loses-nothing a b is =
+    change-one a b (told-one tt _ _ (change-numbered a) (change-numbered b) (ap (λ (f : EndakuroDone). f .number) is) (ap (λ (f : EndakuroDone). f .at) is) (nothing-one _ _))
 
 pub take-numbered : (a : Handout) → Numbered (toldTake a)
 take-numbered (handout.Handed shipper number) = tt

@@ -13,7 +13,7 @@ use Rattle.report.proofs.Laws.{told-one as report-one}
 use Rattle.draw.proofs.Outcome.{fill-one, passes-one, draw-one}
 use Rattle.ticket.proofs.Laws.{told-one as ticket-one}
 use Rattle.live.proofs.Answers.{told-one as live-one}
-use Rattle.book.proofs.Outcomes.{entry-one, withdrawal-one, handout-one}
+use Rattle.book.proofs.Outcomes.{changed-one, handout-one}
 use Rattle.refusals.proofs.give_back.Reads as refusals-give-back
 use Rattle.ranges.proofs.is_within.Reads as ranges-is-within
 use Rattle.ranges.proofs.is_within_signed.Reads as ranges-is-within-signed
@@ -182,7 +182,7 @@ one-outcome =
       ticket-work-out-one = λ _ _ r q _ _ p p′. ticket-one r q (same p p′);
       live-convert-one = λ _ _ r q _ _ p p′. live-one r q (same p p′);
       book-empty-one = λ _ _ _ _ _ _. same;
-      book-request-one = λ _ _ r q _ _ p p′ i. record { book = same (p .1) (p′ .1) i; answer = entry-one (r .answer) (q .answer) (same (p .0) (p′ .0)) i };
-      book-withdraw-one = λ _ _ r q _ _ p p′ i. record { book = same (p .1) (p′ .1) i; answer = withdrawal-one (r .answer) (q .answer) (same (p .0) (p′ .0)) i };
+      book-request-one = λ _ _ r q _ _ p p′. changed-one r q (same (p .0) (p′ .0)) (same (p .1) (p′ .1));
+      book-withdraw-one = λ _ _ r q _ _ p p′. changed-one r q (same (p .0) (p′ .0)) (same (p .1) (p′ .1));
       book-take-one = λ _ _ r q _ _ p p′ i. record { book = same (p .1) (p′ .1) i; answer = handout-one (r .answer) (q .answer) (same (p .0) (p′ .0)) i };
     }
