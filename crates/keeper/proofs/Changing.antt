@@ -38,7 +38,7 @@ use Rattle.book.specs.declared.Book.{Book}
 use Rattle.book.proofs.Book as T
 use Rattle.book.proofs.Book.Laws as T′
 use Rattle.keeper.proofs.Lent.{book-val, opens-book, closes-book, numbers}
-use Rattle.keeper.proofs.Beside.{Beside, pair-mir}
+use Rattle.keeper.proofs.Beside.{Beside, result-row, answer-row, result-mir, answer-val, tells, book-is, answer-is, makes, typed, answer-typed}
 
 abbrev Arg : Type 0
 Arg = RefT Book × (ℕ × (ℕ × Unit {0}))
@@ -54,7 +54,7 @@ module _ (B : Beside) where
         ∷ local (tyRef (named 0) mut (T.the-row .written .ty)) valueLocal
         ∷ local (tyInt w8) valueLocal
         ∷ local (tyInt w32) valueLocal
-        ∷ local (pair-mir (B .name) (B .answer-mir)) valueLocal
+        ∷ local (result-mir B) valueLocal
         ∷ local T′.mir valueLocal
         ∷ [];
     body = seq (assign (place 5 []) (rvOpd (copy (place 1 (deref T′.mir ∷ [])))))
@@ -66,7 +66,7 @@ module _ (B : Beside) where
   -- the two signatures: of the function that is called, by value, and of the one that calls it, in place
   abbrev pub by-value : Ended
   by-value = record {
-    signature = record { lifetimes = 0; outlives = []; params = plain (λ κs. T.the-row) ∷ plain (λ κs. u8) ∷ plain (λ κs. u32) ∷ []; result = plain (λ κs. B .Result) };
+    signature = record { lifetimes = 0; outlives = []; params = plain (λ κs. T.the-row) ∷ plain (λ κs. u8) ∷ plain (λ κs. u32) ∷ []; result = plain (λ κs. result-row B) };
     kept = (yes, (yes, (yes, tt)));
   }
 
@@ -76,7 +76,7 @@ module _ (B : Beside) where
       lifetimes = 1;
       outlives = [];
       params = RefMutOf (0 ∷ []) tt (plain (λ κs. T.the-row)) (λ κs. tt) ∷ plain (λ κs. u8) ∷ plain (λ κs. u32) ∷ [];
-      result = plain (λ κs. B .Answer);
+      result = plain (λ κs. answer-row B);
     };
     kept = (yes, (yes, (yes, tt)));
   }
@@ -86,7 +86,7 @@ module _ (B : Beside) where
 
   -- what a call says of the book found, the shipper, the number, the answer and the book left
   abbrev pub Says : Type 1
-  Says = Book → ℕ → ℕ → B .Answer .Denot → Book → Type 0
+  Says = Book → ℕ → ℕ → B .part .Value → Book → Type 0
 
   module _ (Said : Says) {M : Type 1} (𝓤 : URA M) where
     -- the contract that the walk cites
@@ -102,7 +102,7 @@ module _ (B : Beside) where
       Callee = tripleOf 𝓤 H A (by-value .signature) (closing 𝓤 H A by-value value-clauses)
 
       -- of the callee's `ensured` the clause alone
-      done-of : (h : Book) (s n : ℕ) (r : B .Result .Denot) → ent 𝓤 (ensured 𝓤 H A by-value value-clauses tt (h, (s, (n, tt))) tt r) (fact 𝓤 (Said h s n (B .answer r) (B .book r)))
+      done-of : (h : Book) (s n : ℕ) (r : B .Result) → ent 𝓤 (ensured 𝓤 H A by-value value-clauses tt (h, (s, (n, tt))) tt r) (fact 𝓤 (Said h s n (B .answer r) (B .book r)))
       done-of h s n r = exE 𝓤 _ (λ ws. snd∗ 𝓤 (sem 𝓤 H A (lasts by-value tt (h, (s, (n, tt))) ws)) (fact 𝓤 (Said h s n (B .answer r) (B .book r))))
 
       module _ (W : Given 𝓤 H A) (κ : Lft) (q : Share) (b o : ℕ) (γ : GName) (h : Book) (s n : ℕ) (s-fits : s < 2 ^ 8) (n-fits : n < 2 ^ 32) where
@@ -115,14 +115,14 @@ module _ (B : Beside) where
         abbrev Post : Val → SProp 𝓤
         Post = walkOf 𝓤 H A in-place stayed place-clauses .post (((κ, tt), (q, tt), tt, x, at), tt)
 
-        exits : (r : B .Result .Denot) → Said h s n (B .answer r) (B .book r) → Is (B .Answer) (B .answer r) (B .answer-val (B .answer r) ∷ [])
-            → ent 𝓤 (sep 𝓤 (A .obs γ (T.the-row .coded .code (B .book r))) (sep 𝓤 (A .bor κ (Body (mem T.the-row) b o γ)) (A .lft κ q))) (Post (B .answer-val (B .answer r)))
+        exits : (r : B .Result) → Said h s n (B .answer r) (B .book r) → Is (answer-row B) (B .answer r) (answer-val B (B .answer r) ∷ [])
+            → ent 𝓤 (sep 𝓤 (A .obs γ (T.the-row .coded .code (B .book r))) (sep 𝓤 (A .bor κ (Body (mem T.the-row) b o γ)) (A .lft κ q))) (Post (answer-val B (B .answer r)))
         exits r e is =
             qed W (‵ (fobs γ (T.the-row .coded .code (B .book r))) ∷ ‵ (fbor κ (Body (mem T.the-row) b o γ)) ∷ ‵ (flft κ q) ∷ []) ∵
-            suffices ! _ (ends-at 𝓤 H A in-place stayed place-clauses W (((κ, tt), (q, tt), tt, x, at), tt) (B .answer-val (B .answer r)) (B .answer r) (B .book r, (tt, (tt, tt))) (tt, (tt, (tt, tt)))) $ says ! e $
+            suffices ! _ (ends-at 𝓤 H A in-place stayed place-clauses W (((κ, tt), (q, tt), tt, x, at), tt) (answer-val B (B .answer r)) (B .answer r) (B .book r, (tt, (tt, tt))) (tt, (tt, (tt, tt)))) $ says ! e $
             nothing ! $ move ! (3 ∷ 0 ∷ []) $ join ! $ frame ! $ feqI ! (List Val) (vptr b o ∷ []) (vptr b o ∷ []) refl $ fjoin3 ! $
             numbers ! s n s-fits n-fits $ move ! (1 ∷ 0 ∷ []) $ fjoin ! $
-            owned ! (B .Answer) (Is (B .Answer)) (B .makes 𝓤 H A) (B .answer r) _ is $ move ! (1 ∷ 0 ∷ []) $ done !
+            owned ! (answer-row B) (Is (answer-row B)) (makes B 𝓤 H A) (B .answer r) _ is $ move ! (1 ∷ 0 ∷ []) $ done !
 
         -- what the callee's triple binds outside
         abbrev to-callee : Callee .Ghost
@@ -145,19 +145,19 @@ module _ (B : Beside) where
               assigns ! (of-opd ! (load ! (from ! (hop ! (look ! 15 refl) (stop !))) (look-raw ! 0 refl))) (from ! (stop !)) (init ! 7 refl (LL.lawful T.the-type T′.the-laws 𝓤 H A W .typed h _ g .0)) $
               owned ! T.the-row (Is T.the-row) (LL.makes T.the-type T′.the-plain 𝓤 H A) h _ g $ use1 W (raw (Callee .pre to-callee)) goes-callee $
               calls-at ! fm Callee known to-callee (and-then ! (load ! (from ! (stop !)) (look ! 8 refl)) (and-then ! (load ! (from ! (stop !)) (look ! 14 refl)) (and-then ! (load ! (from ! (stop !)) (look ! 12 refl)) (no-more !)))) (λ w.
-              use1 W (later (some (λ (r : B .Result .Denot). (‵ ftrue ⊛ ‵ (B .Result .own r (w ∷ []))) ⊛ raw (ensured 𝓤 H A by-value value-clauses tt (h, (s, (n, tt))) tt r)))) (id⊢ 𝓤 _) $ await ! tt $ pick ! (λ r.
+              use1 W (later (some (λ (r : B .Result). (‵ ftrue ⊛ ‵ (result-row B .own r (w ∷ []))) ⊛ raw (ensured 𝓤 H A by-value value-clauses tt (h, (s, (n, tt))) tt r)))) (id⊢ 𝓤 _) $ await ! tt $ pick ! (λ r.
               split ! $ move ! (1 ∷ []) $ use1 W (raw (fact 𝓤 (Said h s n (B .answer r) (B .book r)))) (done-of h s n r) $ heard ! (Said h s n (B .answer r) (B .book r)) (λ e. split ! $ drop ! $
-              peeks ! (B .Result) (Is (B .Result)) (shows 𝓤 H A (B .Result)) r (w ∷ []) (λ is.
-              land ! (from ! (stop !)) (init ! 10 refl (B .typed 𝓤 H A W r w is .0)) $
-              rewrite ! 10 (λ (u : Val). ‵ (fat fullShare (pair-mir (B .name) (B .answer-mir)) l₄ 0 u)) (B .tells r w is) refl $
+              peeks ! (result-row B) (Is (result-row B)) (shows 𝓤 H A (result-row B)) r (w ∷ []) (λ is.
+              land ! (from ! (stop !)) (init ! 10 refl (typed B 𝓤 H A W r w is .0)) $
+              rewrite ! 10 (λ (u : Val). ‵ (fat fullShare (result-mir B) l₄ 0 u)) (tells B r w is) refl $
               -- [what the result owns; the book's cell; what the old book owns; the open borrow; obs; auth; true; the numbers'; _5; …; _4; …; _3; …; _2; …; _1; …; room for _0; …]
-              assigns ! (of-opd ! (load ! (from ! (fld ! refl (stop !))) (look-in ! 10 (sub ! 0 refl (whole !))))) (from ! (hop ! (look ! 16 refl) (stop !))) (store-raw ! 1 refl (LL.lawful T.the-type T′.the-laws 𝓤 H A W .typed (B .book r) _ (B .book-is r w is) .0)) $
-              assigns ! (of-opd ! (load ! (from ! (fld ! refl (stop !))) (look-in ! 10 (sub ! 1 refl (whole !))))) (from ! (stop !)) (init ! 18 refl (B .answer-typed 𝓤 H A W (B .answer r) _ (B .answer-is r w is) .0)) $
+              assigns ! (of-opd ! (load ! (from ! (fld ! refl (stop !))) (look-in ! 10 (sub ! 0 refl (whole !))))) (from ! (hop ! (look ! 16 refl) (stop !))) (store-raw ! 1 refl (LL.lawful T.the-type T′.the-laws 𝓤 H A W .typed (B .book r) _ (book-is B r w is) .0)) $
+              assigns ! (of-opd ! (load ! (from ! (fld ! refl (stop !))) (look-in ! 10 (sub ! 1 refl (whole !))))) (from ! (stop !)) (init ! 18 refl (answer-typed B 𝓤 H A W (B .answer r) _ (answer-is B r w is) .0)) $
               -- the borrow is closed at the book that came back
-              drop ! $ closes-book ! tt h (B .book r) b o (B .book-is r w is) $
+              drop ! $ closes-book ! tt h (B .book r) b o (book-is B r w is) $
               returns ! (look ! 15 refl) $ forget ! 5 refl $ forget ! 7 refl $ forget ! 9 refl $ forget ! 11 refl $ forget ! 13 refl $ forget ! 15 refl $
               move ! (15 ∷ 16 ∷ []) $ free1 ! $ move ! (13 ∷ 14 ∷ []) $ free1 ! $ move ! (11 ∷ 12 ∷ []) $ free1 ! $ move ! (9 ∷ 10 ∷ []) $ free1 ! $ move ! (7 ∷ 8 ∷ []) $ free1 ! $ move ! (5 ∷ 6 ∷ []) $ free1 ! $ free0 ! $
-              keep ! (0 ∷ 1 ∷ 2 ∷ []) $ by ! (exits r e (B .answer-is r w is)))))))))))))
+              keep ! (0 ∷ 1 ∷ 2 ∷ []) $ by ! (exits r e (answer-is B r w is)))))))))))))
 
       module _ (W : Given 𝓤 H A) (callee : Name) where
         walks : (C : Calls 𝓤 H) (Λ : Loops 𝓤 H) → FmC 𝓤 H (W .laws) C → Triple 𝓤 (C callee) Callee → Walks 𝓤 H A in-place stayed (WpFn 𝓤 H C Λ (function callee)) place-clauses

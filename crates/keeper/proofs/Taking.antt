@@ -35,7 +35,7 @@ use Rattle.book.specs.declared.Book.{Book}
 use Rattle.book.proofs.Book as T
 use Rattle.book.proofs.Book.Laws as T′
 use Rattle.keeper.proofs.Lent.{book-val, opens-book, closes-book}
-use Rattle.keeper.proofs.Beside.{Beside, pair-mir}
+use Rattle.keeper.proofs.Beside.{Beside, result-row, answer-row, result-mir, answer-val, tells, book-is, answer-is, makes, typed, answer-typed}
 
 abbrev Arg : Type 0
 Arg = RefT Book × Unit {0}
@@ -49,7 +49,7 @@ module _ (B : Beside) where
     params = 1;
     locals = local (B .answer-mir) valueLocal
         ∷ local (tyRef (named 0) mut (T.the-row .written .ty)) valueLocal
-        ∷ local (pair-mir (B .name) (B .answer-mir)) valueLocal
+        ∷ local (result-mir B) valueLocal
         ∷ local T′.mir valueLocal
         ∷ [];
     body = seq (assign (place 3 []) (rvOpd (copy (place 1 (deref T′.mir ∷ [])))))
@@ -61,7 +61,7 @@ module _ (B : Beside) where
   -- the two signatures: of the function that is called, by value, and of the one that calls it, in place
   abbrev pub by-value : Ended
   by-value = record {
-    signature = record { lifetimes = 0; outlives = []; params = plain (λ κs. T.the-row) ∷ []; result = plain (λ κs. B .Result) };
+    signature = record { lifetimes = 0; outlives = []; params = plain (λ κs. T.the-row) ∷ []; result = plain (λ κs. result-row B) };
     kept = (yes, tt);
   }
 
@@ -71,7 +71,7 @@ module _ (B : Beside) where
       lifetimes = 1;
       outlives = [];
       params = RefMutOf (0 ∷ []) tt (plain (λ κs. T.the-row)) (λ κs. tt) ∷ [];
-      result = plain (λ κs. B .Answer);
+      result = plain (λ κs. answer-row B);
     };
     kept = (yes, tt);
   }
@@ -81,7 +81,7 @@ module _ (B : Beside) where
 
   -- what a call says of the book found, the answer and the book left
   abbrev pub Says : Type 1
-  Says = Book → B .Answer .Denot → Book → Type 0
+  Says = Book → B .part .Value → Book → Type 0
 
   module _ (Said : Says) {M : Type 1} (𝓤 : URA M) where
     -- the contract that the walk cites
@@ -97,7 +97,7 @@ module _ (B : Beside) where
       Callee = tripleOf 𝓤 H A (by-value .signature) (closing 𝓤 H A by-value value-clauses)
 
       -- of the callee's `ensured` the clause alone
-      done-of : (h : Book) (r : B .Result .Denot) → ent 𝓤 (ensured 𝓤 H A by-value value-clauses tt (h, tt) tt r) (fact 𝓤 (Said h (B .answer r) (B .book r)))
+      done-of : (h : Book) (r : B .Result) → ent 𝓤 (ensured 𝓤 H A by-value value-clauses tt (h, tt) tt r) (fact 𝓤 (Said h (B .answer r) (B .book r)))
       done-of h r = exE 𝓤 _ (λ ws. snd∗ 𝓤 (sem 𝓤 H A (lasts by-value tt (h, tt) ws)) (fact 𝓤 (Said h (B .answer r) (B .book r))))
 
       module _ (W : Given 𝓤 H A) (κ : Lft) (q : Share) (b o : ℕ) (γ : GName) (h : Book) where
@@ -110,14 +110,14 @@ module _ (B : Beside) where
         abbrev Post : Val → SProp 𝓤
         Post = walkOf 𝓤 H A in-place stayed place-clauses .post (((κ, tt), (q, tt), tt, x, at), tt)
 
-        exits : (r : B .Result .Denot) → Said h (B .answer r) (B .book r) → Is (B .Answer) (B .answer r) (B .answer-val (B .answer r) ∷ [])
-            → ent 𝓤 (sep 𝓤 (A .obs γ (T.the-row .coded .code (B .book r))) (sep 𝓤 (A .bor κ (Body (mem T.the-row) b o γ)) (A .lft κ q))) (Post (B .answer-val (B .answer r)))
+        exits : (r : B .Result) → Said h (B .answer r) (B .book r) → Is (answer-row B) (B .answer r) (answer-val B (B .answer r) ∷ [])
+            → ent 𝓤 (sep 𝓤 (A .obs γ (T.the-row .coded .code (B .book r))) (sep 𝓤 (A .bor κ (Body (mem T.the-row) b o γ)) (A .lft κ q))) (Post (answer-val B (B .answer r)))
         exits r e is =
             qed W (‵ (fobs γ (T.the-row .coded .code (B .book r))) ∷ ‵ (fbor κ (Body (mem T.the-row) b o γ)) ∷ ‵ (flft κ q) ∷ []) ∵
-            suffices ! _ (ends-at 𝓤 H A in-place stayed place-clauses W (((κ, tt), (q, tt), tt, x, at), tt) (B .answer-val (B .answer r)) (B .answer r) (B .book r, tt) (tt, tt)) $ says ! e $
+            suffices ! _ (ends-at 𝓤 H A in-place stayed place-clauses W (((κ, tt), (q, tt), tt, x, at), tt) (answer-val B (B .answer r)) (B .answer r) (B .book r, tt) (tt, tt)) $ says ! e $
             nothing ! $ move ! (3 ∷ 0 ∷ []) $ join ! $ frame ! $ feqI ! (List Val) (vptr b o ∷ []) (vptr b o ∷ []) refl $ fjoin3 ! $
             nothing ! $ move ! (1 ∷ 0 ∷ []) $ fjoin ! $
-            owned ! (B .Answer) (Is (B .Answer)) (B .makes 𝓤 H A) (B .answer r) _ is $ move ! (1 ∷ 0 ∷ []) $ done !
+            owned ! (answer-row B) (Is (answer-row B)) (makes B 𝓤 H A) (B .answer r) _ is $ move ! (1 ∷ 0 ∷ []) $ done !
 
         -- what the callee's triple binds outside
         abbrev to-callee : Callee .Ghost
@@ -139,19 +139,19 @@ module _ (B : Beside) where
               assigns ! (of-opd ! (load ! (from ! (hop ! (look ! 11 refl) (stop !))) (look-raw ! 0 refl))) (from ! (stop !)) (init ! 7 refl (LL.lawful T.the-type T′.the-laws 𝓤 H A W .typed h _ g .0)) $
               owned ! T.the-row (Is T.the-row) (LL.makes T.the-type T′.the-plain 𝓤 H A) h _ g $ use1 W (raw (Callee .pre to-callee)) goes-callee $
               calls-at ! fm Callee known to-callee (and-then ! (load ! (from ! (stop !)) (look ! 8 refl)) (no-more !)) (λ w.
-              use1 W (later (some (λ (r : B .Result .Denot). (‵ ftrue ⊛ ‵ (B .Result .own r (w ∷ []))) ⊛ raw (ensured 𝓤 H A by-value value-clauses tt (h, tt) tt r)))) (id⊢ 𝓤 _) $ await ! tt $ pick ! (λ r.
+              use1 W (later (some (λ (r : B .Result). (‵ ftrue ⊛ ‵ (result-row B .own r (w ∷ []))) ⊛ raw (ensured 𝓤 H A by-value value-clauses tt (h, tt) tt r)))) (id⊢ 𝓤 _) $ await ! tt $ pick ! (λ r.
               split ! $ move ! (1 ∷ []) $ use1 W (raw (fact 𝓤 (Said h (B .answer r) (B .book r)))) (done-of h r) $ heard ! (Said h (B .answer r) (B .book r)) (λ e. split ! $ drop ! $
-              peeks ! (B .Result) (Is (B .Result)) (shows 𝓤 H A (B .Result)) r (w ∷ []) (λ is.
-              land ! (from ! (stop !)) (init ! 10 refl (B .typed 𝓤 H A W r w is .0)) $
-              rewrite ! 10 (λ (u : Val). ‵ (fat fullShare (pair-mir (B .name) (B .answer-mir)) l₂ 0 u)) (B .tells r w is) refl $
+              peeks ! (result-row B) (Is (result-row B)) (shows 𝓤 H A (result-row B)) r (w ∷ []) (λ is.
+              land ! (from ! (stop !)) (init ! 10 refl (typed B 𝓤 H A W r w is .0)) $
+              rewrite ! 10 (λ (u : Val). ‵ (fat fullShare (result-mir B) l₂ 0 u)) (tells B r w is) refl $
               -- [what the result owns; the book's cell; what the old book owns; the open borrow; obs; auth; true; true; _3; …; _2; …; _1; …; room for _0; …]
-              assigns ! (of-opd ! (load ! (from ! (fld ! refl (stop !))) (look-in ! 10 (sub ! 0 refl (whole !))))) (from ! (hop ! (look ! 12 refl) (stop !))) (store-raw ! 1 refl (LL.lawful T.the-type T′.the-laws 𝓤 H A W .typed (B .book r) _ (B .book-is r w is) .0)) $
-              assigns ! (of-opd ! (load ! (from ! (fld ! refl (stop !))) (look-in ! 10 (sub ! 1 refl (whole !))))) (from ! (stop !)) (init ! 14 refl (B .answer-typed 𝓤 H A W (B .answer r) _ (B .answer-is r w is) .0)) $
+              assigns ! (of-opd ! (load ! (from ! (fld ! refl (stop !))) (look-in ! 10 (sub ! 0 refl (whole !))))) (from ! (hop ! (look ! 12 refl) (stop !))) (store-raw ! 1 refl (LL.lawful T.the-type T′.the-laws 𝓤 H A W .typed (B .book r) _ (book-is B r w is) .0)) $
+              assigns ! (of-opd ! (load ! (from ! (fld ! refl (stop !))) (look-in ! 10 (sub ! 1 refl (whole !))))) (from ! (stop !)) (init ! 14 refl (answer-typed B 𝓤 H A W (B .answer r) _ (answer-is B r w is) .0)) $
               -- the borrow is closed at the book that came back
-              drop ! $ closes-book ! tt h (B .book r) b o (B .book-is r w is) $
+              drop ! $ closes-book ! tt h (B .book r) b o (book-is B r w is) $
               returns ! (look ! 11 refl) $ forget ! 5 refl $ forget ! 7 refl $ forget ! 9 refl $ forget ! 11 refl $
               move ! (11 ∷ 12 ∷ []) $ free1 ! $ move ! (9 ∷ 10 ∷ []) $ free1 ! $ move ! (7 ∷ 8 ∷ []) $ free1 ! $ move ! (5 ∷ 6 ∷ []) $ free1 ! $ free0 ! $
-              keep ! (0 ∷ 1 ∷ 2 ∷ []) $ by ! (exits r e (B .answer-is r w is)))))))))))
+              keep ! (0 ∷ 1 ∷ 2 ∷ []) $ by ! (exits r e (answer-is B r w is)))))))))))
 
       module _ (W : Given 𝓤 H A) (callee : Name) where
         walks : (C : Calls 𝓤 H) (Λ : Loops 𝓤 H) → FmC 𝓤 H (W .laws) C → Triple 𝓤 (C callee) Callee → Walks 𝓤 H A in-place stayed (WpFn 𝓤 H C Λ (function callee)) place-clauses

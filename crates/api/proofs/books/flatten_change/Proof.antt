@@ -1,11 +1,9 @@
 -- `api::books::flatten_change` meets its contract: each case of the answer is told as it is flattened.
-use mathlib.Core.Path.{_≡_, ap, sym, _∙_}
+use mathlib.Core.Path.{ap, sym, _∙_}
 use borrow.Author.Needs.{needs}
-use Rattle.refusals.specs.declared.GivenBack.{GivenBack}
 use Rattle.book.specs.Answers.{toldChange}
 use Rattle.book.specs.declared.Change.{Change}
 use Rattle.api.specs.Flat.{flatDone}
-use Rattle.api.specs.declared.books.EndakuroDone.{EndakuroDone}
 use Rattle.api.proofs.books.flatten_change.Statement.{statement}
 use Rattle.api.proofs.books.flatten_change.Tie as tie
 
