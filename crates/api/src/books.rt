@@ -1,14 +1,13 @@
 // 01, 'The book', for C: the controller keeps one book in its own memory and changes it in place.
 ghost use mathlib.Core.Path.{_≡_};
-ghost use Rattle.book.specs.Answers.{toldEntry, toldWithdrawal, toldTake};
+ghost use Rattle.book.specs.Answers.{toldChange, toldTake};
 ghost use Rattle.book.specs.Calls.{requestOf, afterRequest, withdrawalOf, afterWithdrawal, takeOf, afterTake};
 ghost use Rattle.book.specs.Figures.{emptyBook};
 ghost use Rattle.book.specs.Sound.{isSound};
 ghost use Rattle.api.specs.Flat.{flatDone, flatTaken};
 use book::Book;
-use book::Entry;
+use book::Change;
 use book::Handout;
-use book::Withdrawal;
 
 #[repr(C)]
 pub struct EndakuroDone {
@@ -37,27 +36,12 @@ struct Served {
     answer: EndakuroTaken,
 }
 
-fn flatten_entry(answer: Entry) -> EndakuroDone
-    ensures { λ r. ⌜ r ≡ flatDone (toldEntry answer) ⌝ }
+fn flatten_change(answer: Change) -> EndakuroDone
+    ensures { λ r. ⌜ r ≡ flatDone (toldChange answer) ⌝ }
 {
     match answer {
-        Entry::Entered => EndakuroDone { number: 0, at: 0 },
-        Entry::Refused(refusal) => {
-            let given = refusals::give_back(refusal);
-            EndakuroDone {
-                number: given.number as u16,
-                at: given.at,
-            }
-        }
-    }
-}
-
-fn flatten_withdrawal(answer: Withdrawal) -> EndakuroDone
-    ensures { λ r. ⌜ r ≡ flatDone (toldWithdrawal answer) ⌝ }
-{
-    match answer {
-        Withdrawal::Withdrawn => EndakuroDone { number: 0, at: 0 },
-        Withdrawal::Refused(refusal) => {
+        Change::Made => EndakuroDone { number: 0, at: 0 },
+        Change::Refused(refusal) => {
             let given = refusals::give_back(refusal);
             EndakuroDone {
                 number: given.number as u16,
@@ -89,28 +73,27 @@ fn flatten_take(answer: Handout) -> EndakuroTaken
     }
 }
 
+fn flatten_changed(done: book::Changed) -> Changed
+    ensures { λ r. ⌜ (r .answer ≡ flatDone (toldChange (done .answer))) × (r .book ≡ done .book) ⌝ }
+{
+    let left = done.book;
+    let answer = done.answer;
+    Changed {
+        book: left,
+        answer: flatten_change(answer),
+    }
+}
+
 fn enter(book: Book, shipper: u8, number: u32) -> Changed
     ensures { λ r. ⌜ (r .answer ≡ flatDone (requestOf book shipper number)) × (r .book ≡ afterRequest book shipper number) ⌝ }
 {
-    let done = book::request(book, shipper, number);
-    let left = done.book;
-    let entry = done.answer;
-    Changed {
-        book: left,
-        answer: flatten_entry(entry),
-    }
+    flatten_changed(book::request(book, shipper, number))
 }
 
 fn remove(book: Book, shipper: u8, number: u32) -> Changed
     ensures { λ r. ⌜ (r .answer ≡ flatDone (withdrawalOf book shipper number)) × (r .book ≡ afterWithdrawal book shipper number) ⌝ }
 {
-    let done = book::withdraw(book, shipper, number);
-    let left = done.book;
-    let withdrawal = done.answer;
-    Changed {
-        book: left,
-        answer: flatten_withdrawal(withdrawal),
-    }
+    flatten_changed(book::withdraw(book, shipper, number))
 }
 
 fn serve(book: Book) -> Served

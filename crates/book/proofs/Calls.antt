@@ -1,142 +1,143 @@
 -- Laws of the calls: what each answer is when its tests are known, and what an accepted call tells.
-use mathlib.Core.Path.{_≡_, refl, sym, ap, _∙_}
+use mathlib.Core.Path.{_≡_, sym, ap, _∙_}
 use mathlib.Core.Bool.{Bool, true, false, _||_, not, or-true, true≢false}
+use mathlib.Core.Logic.{by-cases}
 use Prim.Native.Nat.{ℕ, _+_, _≤_, _<_}
 use native.Mathlib.Omega.{arith}
 use native.Mathlib.Nat.{lt-of-not-le}
+use native.Mathlib.Decide.{decLt}
 use borrow.Author.Tests.{lt-ltb, le-ltb, ltb-true, eq-eqb, ne-eqb, eqb-false, not-true}
 use lib.Dec.{ltb, eqb}
 use lib.ListN.{drop}
-use Rattle.refusals.specs.Told.{Told, done, refused, Fault, demand, orElse, judged}
-use Rattle.refusals.proofs.Laws.{done-one}
+use Rattle.refusals.specs.Told.{Told, done, refused, Fault, fine, fault, demand, orElse, judged}
+use Rattle.refusals.proofs.Laws.{done-one, judged-fault, judged-refused, judged-was, orElse-first, orElse-fine-first, orElse-fine-next, demand-was}
 use Rattle.book.specs.Line.{isIn, waiting}
 use Rattle.book.specs.Place.{placeOf}
 use Rattle.book.specs.Figures.{shippers, reserve, ceiling, commons, lineAt, waitingOf, has, commonsUsed}
 use Rattle.book.specs.Sound.{isSound, areLinesSound}
-use Rattle.book.specs.Calls.{leftBy, hasRoom, requestFault, requestOf, withdrawalFault, withdrawalOf, takeFault, takeOf, anyWaits, nextShipper, oldestOf}
+use Rattle.book.specs.Calls.{leftBy, callFault, hasRoom, requestFault, requestOf, withdrawalFault, withdrawalOf, takeFault, takeOf, anyWaits, nextShipper, oldestOf}
 use Rattle.book.specs.Answers.{Handed}
 use Rattle.book.specs.declared.Book.{Book}
 use Rattle.book.proofs.Books.{has-count}
 use Rattle.book.proofs.Lists.{found-behind, missed-behind}
 use Rattle.book.proofs.Shape.{Shaped}
 
--- a result comes only of tests that hold
-pub passed : {A : Type 0} (t : Bool) (n : ℕ) (f : Fault) (x : A) {y : A} → judged (orElse (demand t n) f) x ≡ done y → (t ≡ true) × (judged f x ≡ done y)
-passed true n f x p = (refl, p)
-passed false n f x p = let z : _≡_ {A = ℕ} 0 1 = cc in absurd (omega arith)
-
-pub passed-last : {A : Type 0} (t : Bool) (n : ℕ) (x : A) {y : A} → judged (demand t n) x ≡ done y → t ≡ true
-passed-last true n x p = refl
-passed-last false n x p = let z : _≡_ {A = ℕ} 0 1 = cc in absurd (omega arith)
-
-module _ (book : Book) (s x : ℕ) where
-  -- a request: 20, 21, 22, 23, 24, 25, or it goes in
-  pub request-20 : isSound book ≡ false → requestOf book s x ≡ refused 20 0
-  unfolding requestOf requestFault
-  request-20 unsound = rw unsound
-
-  module _ (sound : isSound book ≡ true) where
-    pub request-21 : 4 ≤ s → requestOf book s x ≡ refused 21 0
-    unfolding requestOf requestFault shippers
-    request-21 unknown = rw (sound, le-ltb _ _ unknown)
-
-    module _ (known : s < 4) where
-      pub request-22 : x ≡ 0 → requestOf book s x ≡ refused 22 0
-      unfolding requestOf requestFault shippers
-      request-22 nought = rw (sound, lt-ltb _ _ known, eq-eqb _ _ nought)
-
-      module _ (valid : x ≡ 0 → ⊥) where
-        pub request-23 : isIn x (waitingOf book s) ≡ true → requestOf book s x ≡ refused 23 0
-        unfolding requestOf requestFault shippers
-        request-23 waits = rw (sound, lt-ltb _ _ known, ne-eqb _ _ valid, waits)
-
-        module _ (new : isIn x (waitingOf book s) ≡ false) where
-          pub request-24 : ceiling book s ≤ has book s → requestOf book s x ≡ refused 24 0
-          unfolding requestOf requestFault shippers
-          request-24 full = rw (sound, lt-ltb _ _ known, ne-eqb _ _ valid, new, le-ltb _ _ full)
-
-          module _ (below : has book s < ceiling book s) where
-            pub request-25 : hasRoom book s ≡ false → requestOf book s x ≡ refused 25 0
-            unfolding requestOf requestFault shippers
-            request-25 none = rw (sound, lt-ltb _ _ known, ne-eqb _ _ valid, new, lt-ltb _ _ below, none)
-
-            pub request-in : hasRoom book s ≡ true → requestOf book s x ≡ done tt
-            unfolding requestOf requestFault shippers
-            request-in room = rw (sound, lt-ltb _ _ known, ne-eqb _ _ valid, new, lt-ltb _ _ below, room)
-
-  -- a withdrawal: 20, 21, 22, 26, or it is granted
-  pub withdrawal-20 : isSound book ≡ false → withdrawalOf book s x ≡ refused 20 0
-  unfolding withdrawalOf withdrawalFault
-  withdrawal-20 unsound = rw unsound
-
-  module _ (sound : isSound book ≡ true) where
-    pub withdrawal-21 : 4 ≤ s → withdrawalOf book s x ≡ refused 21 0
-    unfolding withdrawalOf withdrawalFault shippers
-    withdrawal-21 unknown = rw (sound, le-ltb _ _ unknown)
-
-    module _ (known : s < 4) where
-      pub withdrawal-22 : x ≡ 0 → withdrawalOf book s x ≡ refused 22 0
-      unfolding withdrawalOf withdrawalFault shippers
-      withdrawal-22 nought = rw (sound, lt-ltb _ _ known, eq-eqb _ _ nought)
-
-      module _ (valid : x ≡ 0 → ⊥) where
-        pub withdrawal-26 : isIn x (waitingOf book s) ≡ false → withdrawalOf book s x ≡ refused 26 0
-        unfolding withdrawalOf withdrawalFault shippers
-        withdrawal-26 missing = rw (sound, lt-ltb _ _ known, ne-eqb _ _ valid, missing)
-
-        pub withdrawal-granted : isIn x (waitingOf book s) ≡ true → withdrawalOf book s x ≡ done tt
-        unfolding withdrawalOf withdrawalFault shippers
-        withdrawal-granted waits = rw (sound, lt-ltb _ _ known, ne-eqb _ _ valid, waits)
-
--- what a request that goes in tells
-pub record Accepted (book : Book) (s x : ℕ) : Type 0 where
+-- what the first three tests tell where none of them is at fault
+pub record Called (book : Book) (s x : ℕ) : Type 0 where
   pub sound : isSound book ≡ true
   pub known : s < 4
   pub valid : x ≡ 0 → ⊥
+
+pub called : (book : Book) (s x : ℕ) → callFault book s x ≡ fine → Called book s x
+unfolding callFault shippers
+called book s x is =
+    let next = orElse-fine-next (demand (isSound book) 20) _ is in
+    record {
+      sound = demand-was _ 20 (orElse-fine-first _ _ is);
+      known = ltb-true _ _ (demand-was _ 21 (orElse-fine-first _ _ next));
+      valid = eqb-false _ _ (not-true _ (demand-was _ 22 (orElse-fine-next (demand (ltb s 4) 21) _ next)));
+    }
+
+-- whatever else a call is judged by comes after them
+pub judged-first : (first rest : Fault) {n at : ℕ} → judged {A = Unit} first tt ≡ refused n at → judged {A = Unit} (orElse first rest) tt ≡ refused n at
+judged-first first rest is = judged-fault tt (orElse-first rest (judged-refused first tt is))
+
+module _ (book : Book) (s x : ℕ) where
+  -- a request and a withdrawal alike: 20, 21, 22, or none of them
+  pub call-20 : isSound book ≡ false → callFault book s x ≡ fault 20 0
+  unfolding callFault
+  call-20 unsound = rw unsound
+
+  pub call-21 : isSound book ≡ true → 4 ≤ s → callFault book s x ≡ fault 21 0
+  unfolding callFault shippers
+  call-21 sound unknown = rw (sound, le-ltb _ _ unknown)
+
+  pub call-22 : isSound book ≡ true → s < 4 → x ≡ 0 → callFault book s x ≡ fault 22 0
+  unfolding callFault shippers
+  call-22 sound known nought = rw (sound, lt-ltb _ _ known, eq-eqb _ _ nought)
+
+  pub call-fine : Called book s x → callFault book s x ≡ fine
+  unfolding callFault shippers
+  call-fine call = rw (call .sound, lt-ltb _ _ (call .known), ne-eqb _ _ (call .valid))
+
+  module _ (call : callFault book s x ≡ fine) where
+    -- a request then: 23, 24, 25, or it goes in
+    pub request-23 : isIn x (waitingOf book s) ≡ true → requestOf book s x ≡ refused 23 0
+    unfolding requestOf requestFault
+    request-23 waits = rw (call, waits)
+
+    module _ (new : isIn x (waitingOf book s) ≡ false) where
+      pub request-24 : ceiling book s ≤ has book s → requestOf book s x ≡ refused 24 0
+      unfolding requestOf requestFault
+      request-24 full = rw (call, new, le-ltb _ _ full)
+
+      module _ (below : has book s < ceiling book s) where
+        pub request-25 : hasRoom book s ≡ false → requestOf book s x ≡ refused 25 0
+        unfolding requestOf requestFault
+        request-25 none = rw (call, new, lt-ltb _ _ below, none)
+
+        pub request-in : hasRoom book s ≡ true → requestOf book s x ≡ done tt
+        unfolding requestOf requestFault
+        request-in room = rw (call, new, lt-ltb _ _ below, room)
+
+    -- a withdrawal then: 26, or it is granted
+    pub withdrawal-26 : isIn x (waitingOf book s) ≡ false → withdrawalOf book s x ≡ refused 26 0
+    unfolding withdrawalOf withdrawalFault
+    withdrawal-26 missing = rw (call, missing)
+
+    pub withdrawal-granted : isIn x (waitingOf book s) ≡ true → withdrawalOf book s x ≡ done tt
+    unfolding withdrawalOf withdrawalFault
+    withdrawal-granted waits = rw (call, waits)
+
+-- what a request that goes in tells
+pub record Accepted (book : Book) (s x : ℕ) : Type 0 where
+  pub call : Called book s x
   pub new : isIn x (waitingOf book s) ≡ false
   pub below : has book s < ceiling book s
   pub room : hasRoom book s ≡ true
 
 pub accepted : (book : Book) (s x : ℕ) → requestOf book s x ≡ done tt → Accepted book s x
-unfolding requestOf requestFault shippers
+unfolding requestOf requestFault
 accepted book s x p =
-    let p0 = passed (isSound book) 20 _ tt p in
-    let p1 = passed (ltb s 4) 21 _ tt (p0 .1) in
-    let p2 = passed (not (eqb x 0)) 22 _ tt (p1 .1) in
-    let p3 = passed (not (isIn x (waitingOf book s))) 23 _ tt (p2 .1) in
-    let p4 = passed (ltb (has book s) (ceiling book s)) 24 _ tt (p3 .1) in
-    let p5 = passed-last (hasRoom book s) 25 tt (p4 .1) in
-    record { sound = p0 .0; known = ltb-true _ _ (p1 .0); valid = eqb-false _ _ (not-true _ (p2 .0)); new = not-true _ (p3 .0); below = ltb-true _ _ (p4 .0); room = p5 }
+    let all = judged-was (requestFault book s x) tt p in
+    let from23 = orElse-fine-next (callFault book s x) _ all in
+    let from24 = orElse-fine-next (demand (not (isIn x (waitingOf book s))) 23) _ from23 in
+    record {
+      call = called book s x (orElse-fine-first _ _ all);
+      new = not-true _ (demand-was _ 23 (orElse-fine-first _ _ from23));
+      below = ltb-true _ _ (demand-was _ 24 (orElse-fine-first _ _ from24));
+      room = demand-was _ 25 (orElse-fine-next (demand (ltb (has book s) (ceiling book s)) 24) _ from24);
+    }
 
 -- what a withdrawal that is granted tells
 pub record Granted (book : Book) (s x : ℕ) : Type 0 where
-  pub sound : isSound book ≡ true
-  pub known : s < 4
-  pub valid : x ≡ 0 → ⊥
+  pub call : Called book s x
   pub waits : isIn x (waitingOf book s) ≡ true
 
 pub granted : (book : Book) (s x : ℕ) → withdrawalOf book s x ≡ done tt → Granted book s x
-unfolding withdrawalOf withdrawalFault shippers
+unfolding withdrawalOf withdrawalFault
 granted book s x p =
-    let p0 = passed (isSound book) 20 _ tt p in
-    let p1 = passed (ltb s 4) 21 _ tt (p0 .1) in
-    let p2 = passed (not (eqb x 0)) 22 _ tt (p1 .1) in
-    let p3 = passed-last (isIn x (waitingOf book s)) 26 tt (p2 .1) in
-    record { sound = p0 .0; known = ltb-true _ _ (p1 .0); valid = eqb-false _ _ (not-true _ (p2 .0)); waits = p3 }
+    let all = judged-was (withdrawalFault book s x) tt p in
+    record { call = called book s x (orElse-fine-first _ _ all); waits = demand-was _ 26 (orElse-fine-next (callFault book s x) _ all) }
 
 -- whether a number waits, told by its place in the line
 module _ (book : Book) (shaped : Shaped book) (sound : areLinesSound book ≡ true) (s : ℕ) (known : s < 4) (x r : ℕ) (is : r ≡ 0 + placeOf x (drop 0 (waiting (lineAt book s)))) where
-  pub waits-told : r < lineAt book s .count → isIn x (waitingOf book s) ≡ true
+  waits-told : r < lineAt book s .count → isIn x (waitingOf book s) ≡ true
   unfolding waitingOf has
   waits-told here =
       let many = has-count book shaped sound s known in
       found-behind x (waiting (lineAt book s)) 0 r is (omega arith)
 
-  pub missing-told : lineAt book s .count ≤ r → isIn x (waitingOf book s) ≡ false
+  missing-told : lineAt book s .count ≤ r → isIn x (waitingOf book s) ≡ false
   unfolding waitingOf has
   missing-told past =
       let many = has-count book shaped sound s known in
       missed-behind x (waiting (lineAt book s)) 0 r is (omega arith)
+
+  pub place-tells : ltb r (lineAt book s .count) ≡ isIn x (waitingOf book s)
+  place-tells =
+      by-cases (decLt r (lineAt book s .count)) (λ here. lt-ltb _ _ here ∙ sym (waits-told here))
+      (λ not. let past : lineAt book s .count ≤ r = omega arith in le-ltb _ _ past ∙ sym (missing-told past))
 
   pub place-told : isIn x (waitingOf book s) ≡ true → r < lineAt book s .count
   place-told waits = lt-of-not-le (λ past. true≢false (sym waits ∙ missing-told past))
@@ -178,9 +179,10 @@ pub record HandedOut (book : Book) (handed : Handed) : Type 0 where
 pub handed-out : (book : Book) {handed : Handed} → takeOf book ≡ done handed → HandedOut book handed
 unfolding takeOf takeFault
 handed-out book p =
-    let p0 = passed (isSound book) 20 _ _ p in
-    let some = passed-last (anyWaits book) 27 _ (p0 .1) in
-    record { sound = p0 .0; some = some; it = sym (done-one (sym (take-handed book (p0 .0) some) ∙ p)) }
+    let all = judged-was (takeFault book) _ p in
+    let sound = demand-was _ 20 (orElse-fine-first _ _ all) in
+    let some = demand-was _ 27 (orElse-fine-next (demand (isSound book) 20) _ all) in
+    record { sound = sound; some = some; it = sym (done-one (sym (take-handed book sound some) ∙ p)) }
 
 -- the book is changed where a result is told, and as it was where a refusal is
 module _ {A : Type 0} {t : Told A} (new old : Book) where

@@ -57,7 +57,7 @@ module _ (s x : ℕ) (book : Book) (kept : Kept book) where
       went : WentIn book t y → Dec (s ≡ t) → once ((eqb s t && eqb x y) && isDone (requestOf book t y)) + times x (waitingOf book s) ≡ times x (waitingOf (afterRequest book t y) s)
       went w (yes same) =
           let event = ap once (event-mine s x t y (isDone (requestOf book t y)) same (ap isDone (w .answer))) in
-          let line = left-mine (afterRequest book t y) t (waitingOf book t ++ (y ∷ [])) (book .last) (w .told .known) (w .left) same in
+          let line = left-mine (afterRequest book t y) t (waitingOf book t ++ (y ∷ [])) (book .last) (w .told .call .known) (w .left) same in
           let more = times-append x (waitingOf book t) (y ∷ []) in
           let mine = ap (λ (k : ℕ). times x (waitingOf book k)) same in
           omega arith
@@ -74,13 +74,13 @@ module _ (s x : ℕ) (book : Book) (kept : Kept book) where
       went : WentOut book t y → Dec (s ≡ t) → Dec (x ≡ y) → times x (waitingOf book s) ≡ once ((eqb s t && eqb x y) && isDone (withdrawalOf book t y)) + times x (waitingOf (afterWithdrawal book t y) s)
       went w (yes same) (yes it) =
           let event = ap once (event-mine s x t y (isDone (withdrawalOf book t y)) same (ap isDone (w .answer)) ∙ eq-eqb x y it) in
-          let line = left-mine (afterWithdrawal book t y) t (without y (waitingOf book t)) (book .last) (w .told .known) (w .left) same in
+          let line = left-mine (afterWithdrawal book t y) t (without y (waitingOf book t)) (book .last) (w .told .call .known) (w .left) same in
           let fewer = ap (λ (k : ℕ). times k (without y (waitingOf book t)) + 1) it ∙ times-without y (waitingOf book t) (w .told .waits) ∙ ap (λ (k : ℕ). times k (waitingOf book t)) (sym it) in
           let mine = ap (λ (k : ℕ). times x (waitingOf book k)) same in
           omega arith
       went w (yes same) (no not) =
           let event = ap once (event-mine s x t y (isDone (withdrawalOf book t y)) same (ap isDone (w .answer)) ∙ ne-eqb x y not) in
-          let line = left-mine (afterWithdrawal book t y) t (without y (waitingOf book t)) (book .last) (w .told .known) (w .left) same in
+          let line = left-mine (afterWithdrawal book t y) t (without y (waitingOf book t)) (book .last) (w .told .call .known) (w .left) same in
           let as-many = times-without-other x y (waitingOf book t) not in
           let mine = ap (λ (k : ℕ). times x (waitingOf book k)) same in
           omega arith

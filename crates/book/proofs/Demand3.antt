@@ -16,12 +16,12 @@ use Rattle.book.specs.Line.{isIn}
 use Rattle.book.specs.Place.{placeOf}
 use Rattle.book.specs.Figures.{shippers, reserve, ceiling, commons, waitingOf, has, commonsUsed, emptyBook}
 use Rattle.book.specs.Sound.{isSound}
-use Rattle.book.specs.Calls.{hasRoom, requestFault, requestOf, afterRequest, following, hasAny, firstFrom, nextShipper, anyWaits, takeFault, oldestOf, takeOf}
+use Rattle.book.specs.Calls.{callFault, hasRoom, requestFault, requestOf, afterRequest, following, hasAny, firstFrom, nextShipper, anyWaits, takeFault, oldestOf, takeOf}
 use Rattle.book.specs.Runs.{Call, request, after, run, bookAfter, goesIn, isWithdrawn, isTaken, howOften, times, waits, fateOf, NoLaterThan}
 use Rattle.book.specs.declared.Book.{Book}
 use Rattle.book.proofs.Books.{sound-commons}
 use Rattle.book.proofs.Bools.{decided}
-use Rattle.book.proofs.Calls.{accepted, request-in, room-reserve, room-commons}
+use Rattle.book.proofs.Calls.{accepted, call-fine, request-in, room-reserve, room-commons}
 use Rattle.book.proofs.Counts.{balance}
 use Rattle.book.proofs.Fates.{left, bound, still-waiting}
 use Rattle.book.proofs.Kept.{Kept, kept-empty, kept-after, kept-run, at-ceiling, at-proper, empty-waiting, waiting-entered}
@@ -53,7 +53,7 @@ pub below-the-reserve-goes-in : (calls : List Call) (shipper number : ℕ) → s
     → (number ≡ 0 → ⊥) → isIn number (waitingOf (bookAfter calls) shipper) ≡ false → requestOf (bookAfter calls) shipper number ≡ done tt
 unfolding reserve ceiling
 below-the-reserve-goes-in calls s x known few valid new =
-    request-in (bookAfter calls) s x (kept calls .sound) known valid new (omega arith) (room-reserve (bookAfter calls) s few)
+    request-in (bookAfter calls) s x (call-fine (bookAfter calls) s x (record { sound = kept calls .sound; known = known; valid = valid })) new (omega arith) (room-reserve (bookAfter calls) s few)
 
 -- (b) 'one with 2 to 7 is refused it only when the 8 shared places are used up.'
 pub refused-only-when-commons-full : (calls : List Call) (shipper number : ℕ) → shipper < 4 → reserve (bookAfter calls) shipper ≤ has (bookAfter calls) shipper
@@ -63,7 +63,7 @@ refused-only-when-commons-full calls s x known many below valid new n at refusal
     let b = bookAfter calls in
     let most = sound-commons b (kept calls .sound) in
     let free : commonsUsed b < commons b → ⊥ =
-    λ free. refused-done (sym refusal ∙ request-in b s x (kept calls .sound) known valid new below (room-commons b s free)) in
+    λ free. refused-done (sym refusal ∙ request-in b s x (call-fine b s x (record { sound = kept calls .sound; known = known; valid = valid })) new below (room-commons b s free)) in
     let full : commons b < suc (commonsUsed b) = lt-of-not-le free in
     omega arith
   where
@@ -93,14 +93,14 @@ taken-in-time calls s x answer later =
     let told = accepted b s x answer in
     let place = ap (placeOf x) (waiting-entered b s x (kept calls) answer) ∙ place-new x (waitingOf b s) (told .new) in
     let turns = turns-few (following (b′ .last)) s in
-    bound s x (told .known) later b′ (kept-after (request s x) b (kept calls)) (entered calls s x answer) (4 * (length (waitingOf b s) + 1)) (omega arith)
+    bound s x (told .call .known) later b′ (kept-after (request s x) b (kept calls)) (entered calls s x answer) (4 * (length (waitingOf b s) + 1)) (omega arith)
 
 -- (e) '.. and what is neither is waiting still.'
 pub neither-waits-still : (calls : List Call) (shipper number : ℕ) → requestOf (bookAfter calls) shipper number ≡ done tt → (later : List Call)
     → fateOf shipper number later (afterRequest (bookAfter calls) shipper number) ≡ waits → isIn number (waitingOf (run later (afterRequest (bookAfter calls) shipper number)) shipper) ≡ true
 unfolding after
 neither-waits-still calls s x answer later fate =
-    still-waiting s x (accepted (bookAfter calls) s x answer .known) later (afterRequest (bookAfter calls) s x) (kept-after (request s x) (bookAfter calls) (kept calls)) (entered calls s x answer) fate
+    still-waiting s x (accepted (bookAfter calls) s x answer .call .known) later (afterRequest (bookAfter calls) s x) (kept-after (request s x) (bookAfter calls) (kept calls)) (entered calls s x answer) fate
 
 -- (e) 'Each accepted request is taken or withdrawn at most once, and what is neither is waiting still.' Whatever calls come
 -- later, as long as no other request of the same shipper and number goes in: it was taken once, or withdrawn once, or waits.
@@ -151,16 +151,15 @@ same-next book other lines last =
 -- used; on nothing else.'
 pub request-depends-on : (book other : Book) (shipper number : ℕ) → isSound book ≡ true → isSound other ≡ true → waitingOf book shipper ≡ waitingOf other shipper
     → (reserve book shipper ≤ has book shipper → commonsUsed book ≡ commonsUsed other) → requestOf book shipper number ≡ requestOf other shipper number
-unfolding requestOf requestFault has reserve ceiling
+unfolding requestOf requestFault callFault has reserve ceiling
 request-depends-on book other s x sound sound′ line used =
     let both : isSound book ≡ isSound other = sound ∙ sym sound′ in
     let many : length (waitingOf book s) ≡ length (waitingOf other s) = ap length line in
     let room = same-room book other s line used in
     λ i.
     judged
-    (orElse (demand (both i) 20)
-    (orElse (demand (ltb s shippers) 21)
-    (orElse (demand (not (eqb x 0)) 22) (orElse (demand (not (isIn x (line i))) 23) (orElse (demand (ltb (many i) 8) 24) (demand (room i) 25)))))) tt
+    (orElse (orElse (demand (both i) 20) (orElse (demand (ltb s shippers) 21) (demand (not (eqb x 0)) 22)))
+    (orElse (demand (not (isIn x (line i))) 23) (orElse (demand (ltb (many i) 8) 24) (demand (room i) 25)))) tt
 
 -- 01: 'A take's depends on all four lines and the last served.'
 pub take-depends-on : (book other : Book) → isSound book ≡ true → isSound other ≡ true → ((shipper : ℕ) → shipper < 4 → waitingOf book shipper ≡ waitingOf other shipper)

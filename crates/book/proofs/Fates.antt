@@ -54,7 +54,7 @@ module _ (s x : ℕ) (book : Book) (kept : Kept book) (here : isIn x (waitingOf 
   still-request t y =
       ⊎-elim
       (λ w.
-      still-put (afterRequest book t y) t (waitingOf book t ++ (y ∷ [])) (w .told .known) (w .left)
+      still-put (afterRequest book t y) t (waitingOf book t ++ (y ∷ [])) (w .told .call .known) (w .left)
       (λ same.
       let line : waitingOf book t ≡ waitingOf book s = ap (waitingOf book) (sym same) in
       let there = ap (isIn x) line ∙ here in
@@ -68,7 +68,7 @@ module _ (s x : ℕ) (book : Book) (kept : Kept book) (here : isIn x (waitingOf 
   still-withdrawal t y not =
       ⊎-elim
       (λ w.
-      still-put (afterWithdrawal book t y) t (without y (waitingOf book t)) (w .told .known) (w .left)
+      still-put (afterWithdrawal book t y) t (without y (waitingOf book t)) (w .told .call .known) (w .left)
       (λ same.
       let line : waitingOf book t ≡ waitingOf book s = ap (waitingOf book) (sym same) in
       let other : x ≡ y → ⊥ =

@@ -6,7 +6,7 @@ use Rattle.refusals.specs.Told.{done, refused}
 use Rattle.book.specs.Line.{places, waiting, lineOf, isIn, areProper, areZero}
 use Rattle.book.specs.Figures.{shippers, reserve, ceiling, commons, lineAt, waitingOf, has, beyond, commonsUsed, put, emptyBook}
 use Rattle.book.specs.Sound.{isLineSound, isSoundAt, areLinesSound, isSound}
-use Rattle.book.specs.Calls.{hasRoom, requestFault, requestOf, afterRequest}
+use Rattle.book.specs.Calls.{callFault, hasRoom, requestFault, requestOf, afterRequest}
 use Rattle.book.specs.declared.Book.{Book}
 
 -- the book after a shipper has sent the numbers 1, 2, .. up to n
@@ -23,5 +23,5 @@ figures book =
     × (requestOf (sent 1 5 (sent 0 9 book)) 2 1 ≡ done tt)
 
 pub figures-hold : figures emptyBook
-unfolding figures sent emptyBook shippers lineOf places requestOf requestFault afterRequest isSound areLinesSound isSoundAt isLineSound areProper areZero isIn commonsUsed beyond has waitingOf lineAt waiting reserve ceiling commons hasRoom put
+unfolding figures sent emptyBook shippers lineOf places requestOf requestFault callFault afterRequest isSound areLinesSound isSoundAt isLineSound areProper areZero isIn commonsUsed beyond has waitingOf lineAt waiting reserve ceiling commons hasRoom put
 figures-hold = (refl, refl, refl, refl, refl)

@@ -113,7 +113,7 @@ module _ (book : Book) (kept : Kept book) (s : ℕ) (known : s < 4) where
 room-fits : (book : Book) → Kept book → (s x : ℕ) → Accepted book s x → commonsUsed (put book s (waitingOf book s ++ (x ∷ [])) (book .last)) ≤ commons book
 unfolding hasRoom has
 room-fits book kept s x told =
-    let change = commons-put book s (waitingOf book s ++ (x ∷ [])) (book .last) (kept .shape) (told .known) in
+    let change = commons-put book s (waitingOf book s ++ (x ∷ [])) (book .last) (kept .shape) (told .call .known) in
     let used = sound-commons book (kept .sound) in
     let one : length (waitingOf book s ++ (x ∷ [])) ≡ length (waitingOf book s) + 1 = length-append (waitingOf book s) (x ∷ []) in
     ⊎-elim (λ few. let low : length (waitingOf book s) < reserve book s = ltb-true _ _ few in omega arith) (λ many. let free : commonsUsed book < commons book = ltb-true _ _ (sym (ap (λ (t : Bool). t || ltb (commonsUsed book) (commons book)) many) ∙ told .room) in omega arith)
@@ -128,14 +128,14 @@ kept-request book kept s x =
     let one : length (waitingOf book s ++ (x ∷ [])) ≡ length (waitingOf book s) + 1 = length-append (waitingOf book s) (x ∷ []) in
     let below = told .below in
     subst Kept (sym (w .left))
-    (kept-put book s (waitingOf book s ++ (x ∷ [])) (book .last) kept (told .known) (omega arith) (proper-more x _ (at-proper book kept s (told .known)) (told .new) (told .valid)) (room-fits book kept s x told)
+    (kept-put book s (waitingOf book s ++ (x ∷ [])) (book .last) kept (told .call .known) (omega arith) (proper-more x _ (at-proper book kept s (told .call .known)) (told .new) (told .call .valid)) (room-fits book kept s x told)
     (sound-last book (kept .sound)))) (λ u. subst Kept (sym (u .same)) kept) (request-did book s x)
 
 kept-withdrawal : (book : Book) → Kept book → (s x : ℕ) → Kept (afterWithdrawal book s x)
 unfolding has
 kept-withdrawal book kept s x =
     ⊎-elim
-    (λ w. subst Kept (sym (w .left)) (kept-fewer book kept s (w .told .known) (without x (waitingOf book s)) (book .last) (length-without x (waitingOf book s)) (proper-without x _ (at-proper book kept s (w .told .known))) (sound-last book (kept .sound))))
+    (λ w. subst Kept (sym (w .left)) (kept-fewer book kept s (w .told .call .known) (without x (waitingOf book s)) (book .last) (length-without x (waitingOf book s)) (proper-without x _ (at-proper book kept s (w .told .call .known))) (sound-last book (kept .sound))))
     (λ u. subst Kept (sym (u .same)) kept) (withdrawal-did book s x)
 
 kept-take : (book : Book) → Kept book → Kept (afterTake book)
@@ -184,4 +184,4 @@ pub waiting-entered : (book : Book) (s x : ℕ) → Kept book → requestOf book
 unfolding afterRequest
 waiting-entered book s x kept answer =
     let xs = waitingOf book s ++ (x ∷ []) in
-    ap (λ (b : Book). waitingOf b s) (changed (put book s xs (book .last)) book answer) ∙ waiting-put book s xs (book .last) (kept .shape) (accepted book s x answer .known)
+    ap (λ (b : Book). waitingOf b s) (changed (put book s xs (book .last)) book answer) ∙ waiting-put book s xs (book .last) (kept .shape) (accepted book s x answer .call .known)

@@ -16,6 +16,13 @@ abbrev pub leftBy : {A : Type 0} → Told A → Book → Book → Book
 leftBy (done result) changed book = changed
 leftBy (refused number at) changed book = book
 
+-- 'a request 20 to 25; a withdrawal 20, 21, 22, 26': the first three are the same.
+unfoldable pub callFault : Book → ℕ → ℕ → Fault
+callFault book shipper number =
+    orElse (demand (isSound book) 20)
+    (orElse (demand (ltb shipper shippers) 21)
+    (demand (not (eqb number 0)) 22))
+
 -- 25: 'has 2 or more and commons full'
 unfoldable pub hasRoom : Book → ℕ → Bool
 hasRoom book shipper = ltb (has book shipper) (reserve book shipper) || ltb (commonsUsed book) (commons book)
@@ -23,12 +30,10 @@ hasRoom book shipper = ltb (has book shipper) (reserve book shipper) || ltb (com
 -- 'A request goes in exactly when none of 20 to 25 applies', lowest number first.
 unfoldable pub requestFault : Book → ℕ → ℕ → Fault
 requestFault book shipper number =
-    orElse (demand (isSound book) 20)
-    (orElse (demand (ltb shipper shippers) 21)
-    (orElse (demand (not (eqb number 0)) 22)
+    orElse (callFault book shipper number)
     (orElse (demand (not (isIn number (waitingOf book shipper))) 23)
     (orElse (demand (ltb (has book shipper) (ceiling book shipper)) 24)
-    (demand (hasRoom book shipper) 25)))))
+    (demand (hasRoom book shipper) 25)))
 
 unfoldable pub requestOf : Book → ℕ → ℕ → Told Unit
 requestOf book shipper number = judged (requestFault book shipper number) tt
@@ -41,10 +46,8 @@ afterRequest book shipper number =
 -- 'a withdrawal 20, 21, 22, 26'
 unfoldable pub withdrawalFault : Book → ℕ → ℕ → Fault
 withdrawalFault book shipper number =
-    orElse (demand (isSound book) 20)
-    (orElse (demand (ltb shipper shippers) 21)
-    (orElse (demand (not (eqb number 0)) 22)
-    (demand (isIn number (waitingOf book shipper)) 26)))
+    orElse (callFault book shipper number)
+    (demand (isIn number (waitingOf book shipper)) 26)
 
 unfoldable pub withdrawalOf : Book → ℕ → ℕ → Told Unit
 withdrawalOf book shipper number = judged (withdrawalFault book shipper number) tt

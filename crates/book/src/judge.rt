@@ -2,76 +2,98 @@
 ghost use mathlib.Core.Path.{_≡_};
 ghost use mathlib.Core.Bool.{true};
 ghost use Prim.Native.Nat.{_<_};
-ghost use Rattle.book.specs.Answers.{toldEntry, toldWithdrawal, toldTake};
-ghost use Rattle.book.specs.Calls.{requestOf, withdrawalOf, nextShipper, takeOf};
+ghost use Rattle.refusals.specs.Told.{fine, judged};
+ghost use Rattle.book.specs.Answers.{toldChange, toldTake};
+ghost use Rattle.book.specs.Calls.{callFault, requestOf, withdrawalOf, nextShipper, takeOf};
+ghost use Rattle.book.specs.Figures.{waitingOf};
+ghost use Rattle.book.specs.Line.{isIn};
 ghost use Rattle.book.specs.Sound.{isSound};
 use crate::Book;
-use crate::Entry;
+use crate::Change;
 use crate::Handout;
 use crate::SHIPPERS;
-use crate::Withdrawal;
 use crate::queue;
 use crate::sound;
 use refusals::Refusal;
 
-// 23, 24 and 25, once the book, the shipper and the number are known to be good.
-fn judge_place(book: Book, shipper: u8, number: u32) -> Entry
-    requires { ⌜ (isSound book ≡ true) × (shipper < 4) × (number ≡ 0 → ⊥) ⌝ }
-    ensures { λ r. ⌜ toldEntry r ≡ requestOf book shipper number ⌝ }
+// 20, 21 and 22, which a request and a withdrawal share.
+fn judge_call(book: Book, shipper: u8, number: u32) -> Change
+    ensures { λ r. ⌜ toldChange r ≡ judged (callFault book shipper number) tt ⌝ }
+{
+    if !sound::is_sound(book) {
+        return Change::Refused(Refusal::BookNotSound);
+    }
+    if SHIPPERS <= shipper {
+        return Change::Refused(Refusal::UnknownShipper);
+    }
+    if number == 0 {
+        return Change::Refused(Refusal::NumberZero);
+    }
+    Change::Made
+}
+
+// Whether a number waits in its shipper's line.
+fn is_waiting(book: Book, shipper: u8, number: u32) -> bool
+    requires { ⌜ callFault book shipper number ≡ fine ⌝ }
+    ensures { λ r. ⌜ r ≡ isIn number (waitingOf book shipper) ⌝ }
 {
     let at = shipper as usize;
     let line = book.lines[at];
-    let count = line.count;
-    if queue::place(line, 0, number) < count {
-        return Entry::Refused(Refusal::AlreadyWaiting);
+    queue::place(line, 0, number) < line.count
+}
+
+// 23, 24 and 25, once none of the first three applies.
+fn judge_place(book: Book, shipper: u8, number: u32) -> Change
+    requires { ⌜ callFault book shipper number ≡ fine ⌝ }
+    ensures { λ r. ⌜ toldChange r ≡ requestOf book shipper number ⌝ }
+{
+    if is_waiting(book, shipper, number) {
+        return Change::Refused(Refusal::AlreadyWaiting);
     }
+    let at = shipper as usize;
+    let count = book.lines[at].count;
     if Book::CEILING <= count {
-        return Entry::Refused(Refusal::CeilingReached);
+        return Change::Refused(Refusal::CeilingReached);
     }
     if count < Book::RESERVE {
-        return Entry::Entered;
+        return Change::Made;
     }
     if sound::count_commons_used(book) < Book::COMMONS {
-        Entry::Entered
+        Change::Made
     } else {
-        Entry::Refused(Refusal::CommonsFull)
+        Change::Refused(Refusal::CommonsFull)
     }
 }
 
-pub(crate) fn judge_request(book: Book, shipper: u8, number: u32) -> Entry
-    ensures { λ r. ⌜ toldEntry r ≡ requestOf book shipper number ⌝ }
+pub(crate) fn judge_request(book: Book, shipper: u8, number: u32) -> Change
+    ensures { λ r. ⌜ toldChange r ≡ requestOf book shipper number ⌝ }
 {
-    if !sound::is_sound(book) {
-        return Entry::Refused(Refusal::BookNotSound);
+    let call = judge_call(book, shipper, number);
+    match call {
+        Change::Made => judge_place(book, shipper, number),
+        Change::Refused(_) => call,
     }
-    if SHIPPERS <= shipper {
-        return Entry::Refused(Refusal::UnknownShipper);
-    }
-    if number == 0 {
-        return Entry::Refused(Refusal::NumberZero);
-    }
-    judge_place(book, shipper, number)
 }
 
-pub(crate) fn judge_withdrawal(book: Book, shipper: u8, number: u32) -> Withdrawal
-    ensures { λ r. ⌜ toldWithdrawal r ≡ withdrawalOf book shipper number ⌝ }
+// 26, once none of the first three applies.
+fn judge_waiting(book: Book, shipper: u8, number: u32) -> Change
+    requires { ⌜ callFault book shipper number ≡ fine ⌝ }
+    ensures { λ r. ⌜ toldChange r ≡ withdrawalOf book shipper number ⌝ }
 {
-    if !sound::is_sound(book) {
-        return Withdrawal::Refused(Refusal::BookNotSound);
-    }
-    if SHIPPERS <= shipper {
-        return Withdrawal::Refused(Refusal::UnknownShipper);
-    }
-    if number == 0 {
-        return Withdrawal::Refused(Refusal::NumberZero);
-    }
-    let at = shipper as usize;
-    let line = book.lines[at];
-    let count = line.count;
-    if queue::place(line, 0, number) < count {
-        Withdrawal::Withdrawn
+    if is_waiting(book, shipper, number) {
+        Change::Made
     } else {
-        Withdrawal::Refused(Refusal::NotWaiting)
+        Change::Refused(Refusal::NotWaiting)
+    }
+}
+
+pub(crate) fn judge_withdrawal(book: Book, shipper: u8, number: u32) -> Change
+    ensures { λ r. ⌜ toldChange r ≡ withdrawalOf book shipper number ⌝ }
+{
+    let call = judge_call(book, shipper, number);
+    match call {
+        Change::Made => judge_waiting(book, shipper, number),
+        Change::Refused(_) => call,
     }
 }
 

@@ -6,7 +6,7 @@ ghost use mathlib.Core.List.{[], _∷_, _++_};
 ghost use Prim.Native.Nat.{_<_};
 ghost use lib.ListN.{drop};
 ghost use Rattle.refusals.specs.Told.{done};
-ghost use Rattle.book.specs.Answers.{toldEntry, toldWithdrawal, toldTake};
+ghost use Rattle.book.specs.Answers.{toldChange, toldTake};
 ghost use Rattle.book.specs.Calls.{requestOf, afterRequest, withdrawalOf, afterWithdrawal, takeOf, afterTake, hasAny};
 ghost use Rattle.book.specs.Figures.{emptyBook, put, waitingOf};
 ghost use Rattle.book.specs.Line.{without};
@@ -61,24 +61,15 @@ impl Book {
     }
 }
 
-pub enum Entry {
-    Entered,
+// What a request and a withdrawal are answered.
+pub enum Change {
+    Made,
     Refused(Refusal),
 }
 
-pub struct Requested {
+pub struct Changed {
     pub book: Book,
-    pub answer: Entry,
-}
-
-pub enum Withdrawal {
-    Withdrawn,
-    Refused(Refusal),
-}
-
-pub struct Withdrew {
-    pub book: Book,
-    pub answer: Withdrawal,
+    pub answer: Change,
 }
 
 pub enum Handout {
@@ -105,16 +96,16 @@ fn enter(book: Book, shipper: u8, number: u32) -> Book
 }
 
 // A shipper asks that a request waits.
-pub fn request(book: Book, shipper: u8, number: u32) -> Requested
-    ensures { λ r. ⌜ (toldEntry (r .answer) ≡ requestOf book shipper number) × (r .book ≡ afterRequest book shipper number) ⌝ }
+pub fn request(book: Book, shipper: u8, number: u32) -> Changed
+    ensures { λ r. ⌜ (toldChange (r .answer) ≡ requestOf book shipper number) × (r .book ≡ afterRequest book shipper number) ⌝ }
 {
     let answer = judge::judge_request(book, shipper, number);
     match answer {
-        Entry::Entered => Requested {
+        Change::Made => Changed {
             book: enter(book, shipper, number),
             answer,
         },
-        Entry::Refused(_) => Requested { book, answer },
+        Change::Refused(_) => Changed { book, answer },
     }
 }
 
@@ -132,16 +123,16 @@ fn remove(book: Book, shipper: u8, number: u32) -> Book
 }
 
 // A shipper takes a request back.
-pub fn withdraw(book: Book, shipper: u8, number: u32) -> Withdrew
-    ensures { λ r. ⌜ (toldWithdrawal (r .answer) ≡ withdrawalOf book shipper number) × (r .book ≡ afterWithdrawal book shipper number) ⌝ }
+pub fn withdraw(book: Book, shipper: u8, number: u32) -> Changed
+    ensures { λ r. ⌜ (toldChange (r .answer) ≡ withdrawalOf book shipper number) × (r .book ≡ afterWithdrawal book shipper number) ⌝ }
 {
     let answer = judge::judge_withdrawal(book, shipper, number);
     match answer {
-        Withdrawal::Withdrawn => Withdrew {
+        Change::Made => Changed {
             book: remove(book, shipper, number),
             answer,
         },
-        Withdrawal::Refused(_) => Withdrew { book, answer },
+        Change::Refused(_) => Changed { book, answer },
     }
 }
 

@@ -74,11 +74,8 @@ pub(crate) fn answer_line(
     out: &mut [u8],
 ) -> Answered {
     let name = words::word(line, 0);
-    if check::same(name, b"request") {
-        return keeping::answer_request(line, kept, out);
-    }
-    if check::same(name, b"withdraw") {
-        return keeping::answer_withdraw(line, kept, out);
+    if check::same(name, b"request") | check::same(name, b"withdraw") {
+        return keeping::answer_change(line, kept, out);
     }
     if check::same(name, b"take") {
         return keeping::answer_take(line, kept, out);

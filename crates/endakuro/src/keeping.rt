@@ -4,52 +4,44 @@ use crate::answers;
 use crate::entries::Answered;
 use crate::operands;
 use book::Book;
-use book::Entry;
+use book::Change;
+use book::Changed;
 use book::Handout;
 use book::Line;
-use book::Withdrawal;
 use refusals::Refusal;
 
-fn say_entry(answer: Entry, out: &mut [u8]) -> usize {
+fn say_change(answer: Change, out: &mut [u8]) -> usize {
     match answer {
-        Entry::Entered => answers::say_ok(out),
-        Entry::Refused(refusal) => answers::refuse(refusal, out),
+        Change::Made => answers::say_ok(out),
+        Change::Refused(refusal) => answers::refuse(refusal, out),
     }
 }
 
-fn say_withdrawal(answer: Withdrawal, out: &mut [u8]) -> usize {
-    match answer {
-        Withdrawal::Withdrawn => answers::say_ok(out),
-        Withdrawal::Refused(refusal) => answers::refuse(refusal, out),
+// The line's name says which it is: a request, or else a withdrawal.
+fn change(line: &[u8], kept: Book) -> Changed {
+    let shipper = operands::u8_at(line, 1);
+    let number = operands::u32_at(line, 2);
+    if check::same(words::word(line, 0), b"request") {
+        book::request(kept, shipper, number)
+    } else {
+        book::withdraw(kept, shipper, number)
     }
 }
 
-pub(crate) fn answer_request(line: &[u8], kept: Book, out: &mut [u8]) -> Answered {
+pub(crate) fn answer_change(line: &[u8], kept: Book, out: &mut [u8]) -> Answered {
     if !operands::has_form(line, b"bw") {
         return Answered {
             book: kept,
             length: answers::say_bad(out),
         };
     }
-    let done = book::request(kept, operands::u8_at(line, 1), operands::u32_at(line, 2));
+    let done = change(line, kept);
     let next = done.book;
     let answer = done.answer;
-    let length = say_entry(answer, out);
-    Answered { book: next, length }
-}
-
-pub(crate) fn answer_withdraw(line: &[u8], kept: Book, out: &mut [u8]) -> Answered {
-    if !operands::has_form(line, b"bw") {
-        return Answered {
-            book: kept,
-            length: answers::say_bad(out),
-        };
+    Answered {
+        book: next,
+        length: say_change(answer, out),
     }
-    let done = book::withdraw(kept, operands::u8_at(line, 1), operands::u32_at(line, 2));
-    let next = done.book;
-    let answer = done.answer;
-    let length = say_withdrawal(answer, out);
-    Answered { book: next, length }
 }
 
 fn say_handout(answer: Handout, out: &mut [u8]) -> usize {

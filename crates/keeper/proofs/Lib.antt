@@ -1,1 +1,4 @@
 pub mod Lent
+pub mod Beside
+pub mod Changing
+pub mod Taking

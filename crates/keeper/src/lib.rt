@@ -1,16 +1,15 @@
 // The controller keeps one book and changes it in place (01, 'The book'). Each function takes the
 // book apart and calls the by-value one; the answer and the book left are that one's.
 ghost use mathlib.Core.Path.{_≡_};
-ghost use Rattle.book.specs.Answers.{toldEntry, toldWithdrawal, toldTake};
+ghost use Rattle.book.specs.Answers.{toldChange, toldTake};
 ghost use Rattle.book.specs.Calls.{requestOf, afterRequest, withdrawalOf, afterWithdrawal, takeOf, afterTake};
 use book::Book;
-use book::Entry;
+use book::Change;
 use book::Handout;
-use book::Withdrawal;
 
 // A shipper asks that a request waits.
-pub fn request(kept: &mut Book, shipper: u8, number: u32) -> Entry
-    ensures { λ r. ⌜ (toldEntry r ≡ requestOf (now (kept .entry)) shipper number) × (now (kept .exit) ≡ afterRequest (now (kept .entry)) shipper number) ⌝ }
+pub fn request(kept: &mut Book, shipper: u8, number: u32) -> Change
+    ensures { λ r. ⌜ (toldChange r ≡ requestOf (now (kept .entry)) shipper number) × (now (kept .exit) ≡ afterRequest (now (kept .entry)) shipper number) ⌝ }
 {
     let done = book::request(*kept, shipper, number);
     *kept = done.book;
@@ -18,8 +17,8 @@ pub fn request(kept: &mut Book, shipper: u8, number: u32) -> Entry
 }
 
 // A shipper takes a request back.
-pub fn withdraw(kept: &mut Book, shipper: u8, number: u32) -> Withdrawal
-    ensures { λ r. ⌜ (toldWithdrawal r ≡ withdrawalOf (now (kept .entry)) shipper number) × (now (kept .exit) ≡ afterWithdrawal (now (kept .entry)) shipper number) ⌝ }
+pub fn withdraw(kept: &mut Book, shipper: u8, number: u32) -> Change
+    ensures { λ r. ⌜ (toldChange r ≡ withdrawalOf (now (kept .entry)) shipper number) × (now (kept .exit) ≡ afterWithdrawal (now (kept .entry)) shipper number) ⌝ }
 {
     let done = book::withdraw(*kept, shipper, number);
     *kept = done.book;

@@ -44,7 +44,7 @@ use Rattle.live.specs.Live.{tenthsOf, psiOf, psiOk, readingFault, temperatureFa
 use Rattle.book.specs.Line.{isIn}
 use Rattle.book.specs.Figures.{shippers, ceiling, waitingOf, has}
 use Rattle.book.specs.Sound.{isSound}
-use Rattle.book.specs.Calls.{hasRoom, requestFault, requestOf, afterRequest, withdrawalFault, withdrawalOf, afterWithdrawal, anyWaits, takeFault, takeOf, afterTake, leftBy as bookLeftBy}
+use Rattle.book.specs.Calls.{callFault, hasRoom, requestFault, requestOf, afterRequest, withdrawalFault, withdrawalOf, afterWithdrawal, anyWaits, takeFault, takeOf, afterTake, leftBy as bookLeftBy}
 use Rattle.book.specs.declared.Book.{Book}
 use lib.Ieee.Scale.{finite}
 use Rattle.promises.specs.Ending.{isOneOf, starred, recordOk, refusalOk, Ends}
@@ -202,20 +202,24 @@ live-ends temperature pressure = by-judged _ (by-orElse (reading-finds temperatu
 
 -- ---- 'A book call, lowest number first: a request 20 to 25; a withdrawal 20, 21, 22, 26; a take 20, 27.'
 
+-- what the two calls that name a shipper and a number share, on any list that begins so
+call-finds : (book : Book) (shipper number : ℕ) (more : List ℕ) → Finds (20 ∷ 21 ∷ 22 ∷ more) 0 0 (callFault book shipper number)
+unfolding callFault isOneOf starred recordOk refusalOk
+call-finds book shipper number more =
+    by-orElse (by-demand (isSound book) 20 refl) (by-orElse (by-demand (ltb shipper shippers) 21 refl) (by-demand (not (eqb number 0)) 22 refl))
+
 pub request-ends : (book : Book) (shipper number : ℕ) → Ends (20 ∷ 21 ∷ 22 ∷ 23 ∷ 24 ∷ 25 ∷ []) 0 0 (requestOf book shipper number)
 unfolding requestOf requestFault isOneOf starred recordOk refusalOk
 request-ends book shipper number =
     by-judged _
-    (by-orElse (by-demand (isSound book) 20 refl)
-    (by-orElse (by-demand (ltb shipper shippers) 21 refl)
-    (by-orElse (by-demand (not (eqb number 0)) 22 refl)
+    (by-orElse (call-finds book shipper number (23 ∷ 24 ∷ 25 ∷ []))
     (by-orElse (by-demand (not (isIn number (waitingOf book shipper))) 23 refl)
-    (by-orElse (by-demand (ltb (has book shipper) (ceiling book shipper)) 24 refl) (by-demand (hasRoom book shipper) 25 refl))))))
+    (by-orElse (by-demand (ltb (has book shipper) (ceiling book shipper)) 24 refl) (by-demand (hasRoom book shipper) 25 refl))))
 
 pub withdrawal-ends : (book : Book) (shipper number : ℕ) → Ends (20 ∷ 21 ∷ 22 ∷ 26 ∷ []) 0 0 (withdrawalOf book shipper number)
 unfolding withdrawalOf withdrawalFault isOneOf starred recordOk refusalOk
 withdrawal-ends book shipper number =
-    by-judged _ (by-orElse (by-demand (isSound book) 20 refl) (by-orElse (by-demand (ltb shipper shippers) 21 refl) (by-orElse (by-demand (not (eqb number 0)) 22 refl) (by-demand (isIn number (waitingOf book shipper)) 26 refl))))
+    by-judged _ (by-orElse (call-finds book shipper number (26 ∷ [])) (by-demand (isIn number (waitingOf book shipper)) 26 refl))
 
 pub take-ends : (book : Book) → Ends (20 ∷ 27 ∷ []) 0 0 (takeOf book)
 unfolding takeOf takeFault isOneOf starred recordOk refusalOk

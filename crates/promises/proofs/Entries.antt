@@ -16,7 +16,7 @@ use Rattle.draw.specs.Answers.{toldFill, toldPasses, toldDraw}
 use Rattle.draw.specs.Passes.{fillsIn}
 use Rattle.ticket.specs.Answers.{told as toldTicket}
 use Rattle.live.specs.Live.{told as toldLive}
-use Rattle.book.specs.Answers.{toldEntry, toldWithdrawal, toldTake}
+use Rattle.book.specs.Answers.{toldChange, toldTake}
 use Rattle.factors.proofs.cts.Reads as cts
 use Rattle.factors.proofs.cps.Reads as cps
 use Rattle.factors.proofs.cpl.Reads as cpl
@@ -66,10 +66,10 @@ pub record Entries : Type 0 where
   pub ticket-entry : (κ : _) (a : _) (r : _) (x : _) → ticket.Post κ a r x → Ends (10 ∷ 11 ∷ []) 0 0 (toldTicket r)
   pub convert-entry : (κ : _) (a : _) (r : _) (x : _) → convert.Post κ a r x → Ends (12 ∷ 13 ∷ []) 0 0 (toldLive r)
   -- the book: a refusal hands back the book that came in
-  pub request-entry : (κ : _) (a : _) (r : _) (x : _) → request.Post κ a r x → Ends (20 ∷ 21 ∷ 22 ∷ 23 ∷ 24 ∷ 25 ∷ []) 0 0 (toldEntry (r .answer))
-  pub request-leaves : (κ : _) (a : _) (r : _) (x : _) {number at : ℕ} → request.Post κ a r x → toldEntry (r .answer) ≡ refused number at → r .book ≡ a .0
-  pub withdraw-entry : (κ : _) (a : _) (r : _) (x : _) → withdraw.Post κ a r x → Ends (20 ∷ 21 ∷ 22 ∷ 26 ∷ []) 0 0 (toldWithdrawal (r .answer))
-  pub withdraw-leaves : (κ : _) (a : _) (r : _) (x : _) {number at : ℕ} → withdraw.Post κ a r x → toldWithdrawal (r .answer) ≡ refused number at → r .book ≡ a .0
+  pub request-entry : (κ : _) (a : _) (r : _) (x : _) → request.Post κ a r x → Ends (20 ∷ 21 ∷ 22 ∷ 23 ∷ 24 ∷ 25 ∷ []) 0 0 (toldChange (r .answer))
+  pub request-leaves : (κ : _) (a : _) (r : _) (x : _) {number at : ℕ} → request.Post κ a r x → toldChange (r .answer) ≡ refused number at → r .book ≡ a .0
+  pub withdraw-entry : (κ : _) (a : _) (r : _) (x : _) → withdraw.Post κ a r x → Ends (20 ∷ 21 ∷ 22 ∷ 26 ∷ []) 0 0 (toldChange (r .answer))
+  pub withdraw-leaves : (κ : _) (a : _) (r : _) (x : _) {number at : ℕ} → withdraw.Post κ a r x → toldChange (r .answer) ≡ refused number at → r .book ≡ a .0
   pub take-entry : (κ : _) (a : _) (r : _) (x : _) → take.Post κ a r x → Ends (20 ∷ 27 ∷ []) 0 0 (toldTake (r .answer))
   pub take-leaves : (κ : _) (a : _) (r : _) (x : _) {number at : ℕ} → take.Post κ a r x → toldTake (r .answer) ≡ refused number at → r .book ≡ a .0
 

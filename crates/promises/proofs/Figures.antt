@@ -38,7 +38,7 @@ use Rattle.live.specs.Live.{tenthsOf}
 use Rattle.book.specs.Line.{places, waiting, lineOf, isIn, areProper, areZero}
 use Rattle.book.specs.Figures.{shippers, reserve, ceiling, commons, lineAt, waitingOf, has, beyond, commonsUsed, put, emptyBook}
 use Rattle.book.specs.Sound.{isLineSound, isSoundAt, areLinesSound, isSound}
-use Rattle.book.specs.Calls.{hasRoom, requestFault, requestOf, afterRequest}
+use Rattle.book.specs.Calls.{callFault, hasRoom, requestFault, requestOf, afterRequest}
 use Rattle.book.proofs.Figures.{sent}
 
 -- 'base 20.0000, mild, E 30,000,000, the same pipe'
@@ -110,7 +110,7 @@ pub record Figures : Type 0 where
   pub first : requestOf (sent 1 5 (sent 0 9 emptyBook)) 2 1 ≡ done tt
 
 pub figures : Figures
-unfolding prover run fill six temperatureOk drawProverOk drawMeasureOk pressureOk coefficientOk modulusOk diameterOk wallOk compressibilityOk ctlOk ctdwOk runFactorOk volumeOk pulsesOk kFactorOk runsOk roundedDiv rounded numberAt byteAt wordAt longAt signedOf signedAt isZeroAt zeroBetween bytesOf firstToLast placeIf sumOf meanOf smallest largest qualifies groupAt qualifiesAt firstGroup metalOk cts cps cpl combined pipeOk ctsOf cpsOf cplOf sideOk runFieldsOk indicatedBy steelCts steelCps liquidCpl correctedBy atProver atMeter figuresFrom runFigures proverOk figuresFault workedOf listOf bytesOfReport factorsOk firstOk jobOk reportOf writeOf leftBy fillFrom fillAt certifiedOk scaleOk fillFieldsOk unnamedOk adjusted measureCts proverCts ccts drawn fillFigures barrelsOf recordFault fillOf fillBytes readingOk meterFactorOk sedimentOk suppliedOk liquidOk ticketFieldsOk indicated cplFrom factor gross net volumes ticketOf tenthsOf ofBits places waiting lineOf isIn areProper areZero shippers reserve ceiling commons lineAt waitingOf has beyond commonsUsed put emptyBook isLineSound isSoundAt areLinesSound isSound hasRoom requestFault requestOf afterRequest sent
+unfolding prover run fill six temperatureOk drawProverOk drawMeasureOk pressureOk coefficientOk modulusOk diameterOk wallOk compressibilityOk ctlOk ctdwOk runFactorOk volumeOk pulsesOk kFactorOk runsOk roundedDiv rounded numberAt byteAt wordAt longAt signedOf signedAt isZeroAt zeroBetween bytesOf firstToLast placeIf sumOf meanOf smallest largest qualifies groupAt qualifiesAt firstGroup metalOk cts cps cpl combined pipeOk ctsOf cpsOf cplOf sideOk runFieldsOk indicatedBy steelCts steelCps liquidCpl correctedBy atProver atMeter figuresFrom runFigures proverOk figuresFault workedOf listOf bytesOfReport factorsOk firstOk jobOk reportOf writeOf leftBy fillFrom fillAt certifiedOk scaleOk fillFieldsOk unnamedOk adjusted measureCts proverCts ccts drawn fillFigures barrelsOf recordFault fillOf fillBytes readingOk meterFactorOk sedimentOk suppliedOk liquidOk ticketFieldsOk indicated cplFrom factor gross net volumes ticketOf tenthsOf ofBits places waiting lineOf isIn areProper areZero shippers reserve ceiling commons lineAt waitingOf has beyond commonsUsed put emptyBook isLineSound isSoundAt areLinesSound isSound hasRoom callFault requestFault requestOf afterRequest sent
 figures = record {
   cts-at-70 = refl;
   cts-at-50 = refl;

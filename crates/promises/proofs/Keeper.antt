@@ -11,14 +11,13 @@ use ghost.Atoms.{Atoms}
 use contract.Monad.{Fun, fact}
 use contract.Lifetimes.{Lfts}
 use mathlib.Core.List.{[], _∷_}
-use Rattle.refusals.specs.Told.{refused}
-use Rattle.book.specs.Answers.{toldEntry, toldWithdrawal, toldTake}
+use Rattle.refusals.specs.Told.{Told, refused}
+use Rattle.book.specs.Answers.{toldChange, toldTake}
 use Rattle.book.specs.Calls.{requestOf, afterRequest, withdrawalOf, afterWithdrawal, takeOf, afterTake}
 use Rattle.book.specs.declared.Book.{Book}
-use Rattle.book.specs.declared.Entry.{Entry}
-use Rattle.book.specs.declared.Withdrawal.{Withdrawal}
+use Rattle.book.specs.declared.Change.{Change}
 use Rattle.book.specs.declared.Handout.{Handout}
-use Rattle.book.proofs.Outcomes.{entry-one, withdrawal-one, handout-one}
+use Rattle.book.proofs.Outcomes.{change-one, handout-one}
 use Rattle.promises.specs.Ending.{Ends}
 use Rattle.promises.proofs.Endings.{as-told}
 use Rattle.promises.proofs.Demand1.{request-ends, withdrawal-ends, take-ends, request-leaves-book, withdrawal-leaves-book, take-leaves-book}
@@ -26,12 +25,15 @@ use Rattle.keeper.proofs.request as request
 use Rattle.keeper.proofs.withdraw as withdraw
 use Rattle.keeper.proofs.take as take
 
--- what each call says of the book found, the book left and its answer
-abbrev pub Requests : ℕ → ℕ → Book → Book → Entry → Type 0
-Requests shipper number found left r = (toldEntry r ≡ requestOf found shipper number) × (left ≡ afterRequest found shipper number)
+-- what each call says of the book found, the book left and its answer; a request and a withdrawal alike, over what they are told and leave
+abbrev pub Changes : (Book → ℕ → ℕ → Told Unit) → (Book → ℕ → ℕ → Book) → ℕ → ℕ → Book → Book → Change → Type 0
+Changes of after shipper number found left r = (toldChange r ≡ of found shipper number) × (left ≡ after found shipper number)
 
-abbrev pub Withdraws : ℕ → ℕ → Book → Book → Withdrawal → Type 0
-Withdraws shipper number found left r = (toldWithdrawal r ≡ withdrawalOf found shipper number) × (left ≡ afterWithdrawal found shipper number)
+abbrev pub Requests : ℕ → ℕ → Book → Book → Change → Type 0
+Requests = Changes requestOf afterRequest
+
+abbrev pub Withdraws : ℕ → ℕ → Book → Book → Change → Type 0
+Withdraws = Changes withdrawalOf afterWithdrawal
 
 abbrev pub Takes : Book → Book → Handout → Type 0
 Takes found left r = (toldTake r ≡ takeOf found) × (left ≡ afterTake found)
@@ -47,11 +49,15 @@ module _ {M : Type 1} (𝓤 : URA M) (H : Heap 𝓤) (κs : Lfts 1) (A : Atoms �
   withdraw-says kept shipper number both s n r = refl
 
 -- the same answer, and the same book left
-pub request-one : (shipper number : ℕ) (found left left′ : Book) (r q : Entry) → Requests shipper number found left r → Requests shipper number found left′ q → (r ≡ q) × (left ≡ left′)
-request-one shipper number found left left′ r q p p′ = (entry-one r q (p .0 ∙ sym (p′ .0)), p .1 ∙ sym (p′ .1))
+changes-one : (of : Book → ℕ → ℕ → Told Unit) (after : Book → ℕ → ℕ → Book) (shipper number : ℕ) (found left left′ : Book) (r q : Change)
+    → Changes of after shipper number found left r → Changes of after shipper number found left′ q → (r ≡ q) × (left ≡ left′)
+changes-one of after shipper number found left left′ r q p p′ = (change-one r q (p .0 ∙ sym (p′ .0)), p .1 ∙ sym (p′ .1))
 
-pub withdraw-one : (shipper number : ℕ) (found left left′ : Book) (r q : Withdrawal) → Withdraws shipper number found left r → Withdraws shipper number found left′ q → (r ≡ q) × (left ≡ left′)
-withdraw-one shipper number found left left′ r q p p′ = (withdrawal-one r q (p .0 ∙ sym (p′ .0)), p .1 ∙ sym (p′ .1))
+pub request-one : (shipper number : ℕ) (found left left′ : Book) (r q : Change) → Requests shipper number found left r → Requests shipper number found left′ q → (r ≡ q) × (left ≡ left′)
+request-one = changes-one requestOf afterRequest
+
+pub withdraw-one : (shipper number : ℕ) (found left left′ : Book) (r q : Change) → Withdraws shipper number found left r → Withdraws shipper number found left′ q → (r ≡ q) × (left ≡ left′)
+withdraw-one = changes-one withdrawalOf afterWithdrawal
 
 pub take-one : (found left left′ : Book) (r q : Handout) → Takes found left r → Takes found left′ q → (r ≡ q) × (left ≡ left′)
 take-one found left left′ r q p p′ = (handout-one r q (p .0 ∙ sym (p′ .0)), p .1 ∙ sym (p′ .1))
@@ -59,16 +65,16 @@ take-one found left left′ r q p p′ = (handout-one r q (p .0 ∙ sym (p′ .0
 -- 'A book call, lowest number first: a request 20 to 25; a withdrawal 20, 21, 22, 26; a take 20, 27.'
 -- 'A refusal .. hands the book of waiting requests back unchanged.'
 module _ (shipper number : ℕ) (found left : Book) where
-  pub request-ends-in-place : (r : Entry) → Requests shipper number found left r → Ends (20 ∷ 21 ∷ 22 ∷ 23 ∷ 24 ∷ 25 ∷ []) 0 0 (toldEntry r)
+  pub request-ends-in-place : (r : Change) → Requests shipper number found left r → Ends (20 ∷ 21 ∷ 22 ∷ 23 ∷ 24 ∷ 25 ∷ []) 0 0 (toldChange r)
   request-ends-in-place r p = as-told (p .0) (request-ends found shipper number)
 
-  pub request-leaves-in-place : (r : Entry) {n at : ℕ} → Requests shipper number found left r → toldEntry r ≡ refused n at → left ≡ found
+  pub request-leaves-in-place : (r : Change) {n at : ℕ} → Requests shipper number found left r → toldChange r ≡ refused n at → left ≡ found
   request-leaves-in-place r p is = p .1 ∙ request-leaves-book found shipper number (sym (p .0) ∙ is)
 
-  pub withdrawal-ends-in-place : (r : Withdrawal) → Withdraws shipper number found left r → Ends (20 ∷ 21 ∷ 22 ∷ 26 ∷ []) 0 0 (toldWithdrawal r)
+  pub withdrawal-ends-in-place : (r : Change) → Withdraws shipper number found left r → Ends (20 ∷ 21 ∷ 22 ∷ 26 ∷ []) 0 0 (toldChange r)
   withdrawal-ends-in-place r p = as-told (p .0) (withdrawal-ends found shipper number)
 
-  pub withdrawal-leaves-in-place : (r : Withdrawal) {n at : ℕ} → Withdraws shipper number found left r → toldWithdrawal r ≡ refused n at → left ≡ found
+  pub withdrawal-leaves-in-place : (r : Change) {n at : ℕ} → Withdraws shipper number found left r → toldChange r ≡ refused n at → left ≡ found
   withdrawal-leaves-in-place r p is = p .1 ∙ withdrawal-leaves-book found shipper number (sym (p .0) ∙ is)
 
 module _ (found left : Book) (r : Handout) where

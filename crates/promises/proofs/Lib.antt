@@ -12,3 +12,5 @@ pub mod Demand3
 pub mod OneOutcome
 pub mod GrammarOutcome
 pub mod Keeper
+pub mod OneOutcomeC
+pub mod Flattened

@@ -13,7 +13,7 @@ use Rattle.report.proofs.Laws.{told-one as report-one}
 use Rattle.draw.proofs.Outcome.{fill-one, passes-one, draw-one}
 use Rattle.ticket.proofs.Laws.{told-one as ticket-one}
 use Rattle.live.proofs.Answers.{told-one as live-one}
-use Rattle.book.proofs.Outcomes.{entry-one, withdrawal-one, handout-one}
+use Rattle.book.proofs.Outcomes.{changed-one, handout-one}
 use Rattle.refusals.proofs.give_back.Reads as refusals-give-back
 use Rattle.ranges.proofs.is_within.Reads as ranges-is-within
 use Rattle.ranges.proofs.is_within_signed.Reads as ranges-is-within-signed
@@ -23,6 +23,7 @@ use Rattle.exact.proofs.rounded_ratio.Reads as exact-rounded-ratio
 use Rattle.exact.proofs.value_or_zero.Reads as exact-value-or-zero
 use Rattle.factors.proofs.coefficient.Reads as factors-coefficient
 use Rattle.factors.proofs.is_metal.Reads as factors-is-metal
+use Rattle.factors.proofs.choose_metal.Reads as factors-choose-metal
 use Rattle.factors.proofs.is_pipe.Reads as factors-is-pipe
 use Rattle.factors.proofs.cts.Reads as factors-cts
 use Rattle.factors.proofs.cps.Reads as factors-cps
@@ -87,6 +88,7 @@ pub record OneOutcome : Type 0 where
   pub exact-value-or-zero-one : OneAnswer exact-value-or-zero.Post
   pub factors-coefficient-one : OneAnswer factors-coefficient.Post
   pub factors-is-metal-one : OneAnswer factors-is-metal.Post
+  pub factors-choose-metal-one : OneAnswer factors-choose-metal.Post
   pub factors-is-pipe-one : OneAnswer factors-is-pipe.Post
   pub factors-cts-one : OneAnswer factors-cts.Post
   pub factors-cps-one : OneAnswer factors-cps.Post
@@ -143,6 +145,7 @@ one-outcome =
       exact-value-or-zero-one = λ _ _ _ _ _ _. same;
       factors-coefficient-one = λ _ _ _ _ _ _. same;
       factors-is-metal-one = λ _ _ _ _ _ _. same;
+      factors-choose-metal-one = λ _ _ _ _ _ _. same;
       factors-is-pipe-one = λ _ _ _ _ _ _. same;
       factors-cts-one = λ _ _ r q _ _ p p′. factor-one r q (same p p′);
       factors-cps-one = λ _ _ r q _ _ p p′. factor-one r q (same p p′);
@@ -179,7 +182,7 @@ one-outcome =
       ticket-work-out-one = λ _ _ r q _ _ p p′. ticket-one r q (same p p′);
       live-convert-one = λ _ _ r q _ _ p p′. live-one r q (same p p′);
       book-empty-one = λ _ _ _ _ _ _. same;
-      book-request-one = λ _ _ r q _ _ p p′ i. record { book = same (p .1) (p′ .1) i; answer = entry-one (r .answer) (q .answer) (same (p .0) (p′ .0)) i };
-      book-withdraw-one = λ _ _ r q _ _ p p′ i. record { book = same (p .1) (p′ .1) i; answer = withdrawal-one (r .answer) (q .answer) (same (p .0) (p′ .0)) i };
+      book-request-one = λ _ _ r q _ _ p p′. changed-one r q (same (p .0) (p′ .0)) (same (p .1) (p′ .1));
+      book-withdraw-one = λ _ _ r q _ _ p p′. changed-one r q (same (p .0) (p′ .0)) (same (p .1) (p′ .1));
       book-take-one = λ _ _ r q _ _ p p′ i. record { book = same (p .1) (p′ .1) i; answer = handout-one (r .answer) (q .answer) (same (p .0) (p′ .0)) i };
     }

@@ -17,15 +17,15 @@ mul-lengthen : tie.Need-mul-lengthen
 mul-lengthen c = omega arith
 
 element-copy-out-lengthen : tie.Need-element-copy-out-lengthen
-element-copy-out-lengthen c = told c .known
+element-copy-out-lengthen c = told c .call .known
 
 lengthen-requires : tie.Need-lengthen-requires
 unfolding lineAt
 lengthen-requires c κs =
     let a = c .before in
     let b = a .args .t1 in
-    let known = told a .known in
-    let lines = sound-lines b (told a .sound) in
+    let known = told a .call .known in
+    let lines = sound-lines b (told a .call .sound) in
     let few = at-count b (shaped b _ (a .good .0)) lines (a .args .shipper) known in
     (omega arith, line-unused 8 (lineAt b (a .args .shipper)) (at-sound b (shaped b _ (a .good .0)) lines (a .args .shipper) known))
 
@@ -33,7 +33,7 @@ mul-longer : tie.Need-mul-longer
 mul-longer c = omega arith
 
 element-set-from-longer : tie.Need-element-set-from-longer
-element-set-from-longer c = told (c .before .before) .known
+element-set-from-longer c = told (c .before .before) .call .known
 
 returns : tie.Need-returns
 unfolding put waitingOf lineAt

@@ -21,13 +21,13 @@ mul-line : tie.Need-mul-line
 mul-line c = omega arith
 
 element-copy-out-line : tie.Need-element-copy-out-line
-element-copy-out-line c = told c .known
+element-copy-out-line c = told c .call .known
 
 place-requires : tie.Need-place-requires
 unfolding lineAt
 place-requires c κs =
     let a = c .before in
-    let few = at-count (a .args .t1) (shaped (a .args .t1) _ (a .good .0)) (sound-lines _ (told a .sound)) (a .args .shipper) (told a .known) in
+    let few = at-count (a .args .t1) (shaped (a .args .t1) _ (a .good .0)) (sound-lines _ (told a .call .sound)) (a .args .shipper) (told a .call .known) in
     omega arith
 
 shorten-requires : tie.Need-shorten-requires
@@ -35,16 +35,16 @@ unfolding lineAt
 shorten-requires c κs =
     let a = c .before .before in
     let b = a .args .t1 in
-    let lines = sound-lines b (told a .sound) in
-    let few = at-count b (shaped b _ (a .good .0)) lines (a .args .shipper) (told a .known) in
-    let here = place-told b (shaped b _ (a .good .0)) lines (a .args .shipper) (told a .known) (a .args .number) _ (c .place .ensures) (told a .waits) in
-    (omega arith, here, line-unused 8 (lineAt b (a .args .shipper)) (at-sound b (shaped b _ (a .good .0)) lines (a .args .shipper) (told a .known)))
+    let lines = sound-lines b (told a .call .sound) in
+    let few = at-count b (shaped b _ (a .good .0)) lines (a .args .shipper) (told a .call .known) in
+    let here = place-told b (shaped b _ (a .good .0)) lines (a .args .shipper) (told a .call .known) (a .args .number) _ (c .place .ensures) (told a .waits) in
+    (omega arith, here, line-unused 8 (lineAt b (a .args .shipper)) (at-sound b (shaped b _ (a .good .0)) lines (a .args .shipper) (told a .call .known)))
 
 mul-shorter : tie.Need-mul-shorter
 mul-shorter c = omega arith
 
 element-set-from-shorter : tie.Need-element-set-from-shorter
-element-set-from-shorter c = told (c .before .before .before) .known
+element-set-from-shorter c = told (c .before .before .before) .call .known
 
 returns : tie.Need-returns
 unfolding put waitingOf lineAt

@@ -1,7 +1,7 @@
 -- `book::withdraw` meets its contract: the answer is the judge's, and the book is changed exactly where it is granted.
 use mathlib.Core.Path.{sym, ap, _∙_}
 use borrow.Author.Needs.{needs}
-use Rattle.book.specs.Answers.{toldWithdrawal}
+use Rattle.book.specs.Answers.{toldChange}
 use Rattle.book.specs.Calls.{afterWithdrawal}
 use Rattle.book.proofs.Calls.{changed, unchanged}
 use Rattle.book.proofs.withdraw.Statement.{statement}
@@ -14,7 +14,7 @@ enum-told : tie.Need-enum-told
 enum-told c = search needs
 
 remove-requires : tie.Need-remove-requires
-remove-requires c κs = sym (c .before .before .judge-withdrawal .ensures) ∙ ap toldWithdrawal (c .enum-told .given .1)
+remove-requires c κs = sym (c .before .before .judge-withdrawal .ensures) ∙ ap toldChange (c .enum-told .given .1)
 
 enum-told-2 : tie.Need-enum-told-2
 enum-told-2 c = search needs
@@ -23,13 +23,13 @@ returns : tie.Need-returns
 unfolding afterWithdrawal
 returns c =
     let j = c .before .before .before in
-    (j .judge-withdrawal .ensures, c .remove .ensures ∙ sym (changed _ _ (sym (j .judge-withdrawal .ensures) ∙ ap toldWithdrawal (c .before .enum-told .given .1))))
+    (j .judge-withdrawal .ensures, c .remove .ensures ∙ sym (changed _ _ (sym (j .judge-withdrawal .ensures) ∙ ap toldChange (c .before .enum-told .given .1))))
 
 returns-2 : tie.Need-returns-2
 unfolding afterWithdrawal
 returns-2 c =
     let j = c .before .before in
-    (j .judge-withdrawal .ensures, sym (unchanged _ _ (sym (j .judge-withdrawal .ensures) ∙ ap toldWithdrawal (c .enum-told2 .given .1))))
+    (j .judge-withdrawal .ensures, sym (unchanged _ _ (sym (j .judge-withdrawal .ensures) ∙ ap toldChange (c .enum-told2 .given .1))))
 
 pub withdraw-spec : {M : Type 1} → statement M
 withdraw-spec =

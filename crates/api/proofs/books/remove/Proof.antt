@@ -1,5 +1,5 @@
 -- `api::books::remove` meets its contract: the book is that of `book::withdraw`, and its answer is flattened.
-use mathlib.Core.Path.{_≡_, ap, _∙_}
+use mathlib.Core.Path.{ap, _∙_}
 use Rattle.api.specs.Flat.{flatDone}
 use borrow.Author.Needs.{needs}
 use Rattle.api.proofs.books.remove.Statement.{statement}
@@ -8,11 +8,13 @@ use Rattle.api.proofs.books.remove.Tie as tie
 withdraw-requires : tie.Need-withdraw-requires
 withdraw-requires c κs = search needs
 
-flatten-withdrawal-requires : tie.Need-flatten-withdrawal-requires
-flatten-withdrawal-requires c κs = search needs
+flatten-changed-requires : tie.Need-flatten-changed-requires
+flatten-changed-requires c κs = search needs
 
 returns : tie.Need-returns
-returns c = (c .flatten-withdrawal .ensures ∙ ap flatDone (c .before .before .withdraw .ensures .0), c .before .before .withdraw .ensures .1)
+returns c =
+    let left = c .before .withdraw .ensures in
+    (c .flatten-changed .ensures .0 ∙ ap flatDone (left .0), c .flatten-changed .ensures .1 ∙ left .1)
 
 pub remove-spec : {M : Type 1} → statement M
-remove-spec = tie.close (tie.spec withdraw-requires flatten-withdrawal-requires returns)
+remove-spec = tie.close (tie.spec withdraw-requires flatten-changed-requires returns)

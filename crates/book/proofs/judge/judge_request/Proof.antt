@@ -1,40 +1,35 @@
--- `book::judge::judge_request` meets its contract: 20, 21 and 22 in their order, each by its law.
-use mathlib.Core.Path.{_≡_, sym, _∙_}
-use mathlib.Core.Bool.{true}
-use borrow.Author.Tests.{not-true, not-false}
-use Rattle.book.specs.Sound.{isSound}
-use Rattle.book.proofs.Calls.{request-20, request-21, request-22}
+-- `book::judge::judge_request` meets its contract: the first three numbers, and past them the others of a request.
+use mathlib.Core.Path.{sym, ap, _∙_}
+use borrow.Author.Needs.{needs}
+use Rattle.refusals.proofs.Laws.{judged-was}
+use Rattle.book.specs.Answers.{toldChange}
+use Rattle.book.specs.Calls.{callFault, requestFault, requestOf}
+use Rattle.book.proofs.Calls.{judged-first}
 use Rattle.book.proofs.judge.judge_request.Statement.{statement}
 use Rattle.book.proofs.judge.judge_request.Tie as tie
 
-sound : (c : tie.Else1) → isSound (c .before .before .args .book) ≡ true
-sound c = sym (c .before .is-sound .ensures) ∙ not-false _ (c .if1 .left)
+judge-call-requires : tie.Need-judge-call-requires
+judge-call-requires c κs = tt
 
-is-sound-requires : tie.Need-is-sound-requires
-is-sound-requires c κs = tt
-
-returns : tie.Need-returns
-returns c =
-    let a = c .before .before in
-    sym (request-20 (a .args .book) (a .args .shipper) (a .args .number) (sym (c .before .is-sound .ensures) ∙ not-true _ (c .if1 .taken)))
-
-returns-2 : tie.Need-returns-2
-returns-2 c =
-    let a = c .before .before .before in
-    sym (request-21 (a .args .book) (a .args .shipper) (a .args .number) (sound (c .before)) (c .if2 .taken))
-
-returns-3 : tie.Need-returns-3
-returns-3 c =
-    let a = c .before .before .before .before in
-    sym (request-22 (a .args .book) (a .args .shipper) (a .args .number) (sound (c .before .before)) (c .before .if2 .left) (c .if3 .taken))
+enum-told : tie.Need-enum-told
+enum-told c = search needs
 
 judge-place-requires : tie.Need-judge-place-requires
-judge-place-requires c κs = (sound (c .before .before), c .before .if2 .left, c .if3 .left)
+judge-place-requires c κs = judged-was (callFault _ _ _) tt (sym (c .before .before .judge-call .ensures) ∙ ap toldChange (c .enum-told .given .1))
 
-returns-4 : tie.Need-returns-4
-returns-4 c = c .judge-place .ensures
+enum-told-2 : tie.Need-enum-told-2
+enum-told-2 c = search needs
+
+returns : tie.Need-returns
+returns c = c .judge-place .ensures
+
+returns-2 : tie.Need-returns-2
+unfolding requestOf requestFault
+returns-2 c =
+    let told = ap toldChange (c .enum-told2 .given .1) in
+    told ∙ sym (judged-first (callFault _ _ _) _ (sym (c .before .before .judge-call .ensures) ∙ told))
 
 pub judge-request-spec : {M : Type 1} → statement M
 judge-request-spec =
     tie.close
-    (tie.spec is-sound-requires returns returns-2 returns-3 judge-place-requires returns-4)
+    (tie.spec judge-call-requires enum-told judge-place-requires enum-told-2 returns returns-2)
