@@ -1,0 +1,6 @@
+#pragma once
+#include <stddef.h>
+
+unsigned long strtoul(const char *, char **, int);
+long strtol(const char *, char **, int);
+_Noreturn void exit(int);

@@ -1,0 +1,11 @@
+#pragma once
+
+struct timespec {
+    long tv_sec;
+    long tv_nsec;
+};
+
+#define CLOCK_MONOTONIC 1
+#define CLOCK_PROCESS_CPUTIME_ID 2
+
+int clock_gettime(int, struct timespec *);
