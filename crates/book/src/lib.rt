@@ -23,13 +23,15 @@ pub use sound::is_sound;
 const SHIPPERS: u8 = 4;
 
 // The requests of one shipper that wait, oldest first. Sixteen places for everybody, so that no
-// agreement about places changes the record.
+// agreement about places changes the record. Laid out as C does, for controllers that keep a book.
+#[repr(C)]
 pub struct Line {
     pub numbers: [u32; Book::PLACES],
     pub count: usize,
 }
 
 // The lines of shippers 0 to 3, and the shipper whose request was handed out last.
+#[repr(C)]
 pub struct Book {
     pub lines: [Line; 4],
     pub last: u8,

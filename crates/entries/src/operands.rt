@@ -105,27 +105,10 @@ pub(crate) fn single_at(line: &[u8], n: usize) -> f32 {
     single_of(lines::read_single(lines::word(line, n)))
 }
 
-// A certificate wins over the name; what is no metal is one whose coefficient is out of range.
-fn metal_of(code: u8, coefficient: u16) -> Metal {
-    if 4 < code {
-        return Metal::Certified(0);
-    }
-    if coefficient != 0 {
-        return Metal::Certified(coefficient);
-    }
-    match code {
-        0 => Metal::MildCarbon,
-        1 => Metal::Stainless304,
-        2 => Metal::Stainless316,
-        3 => Metal::PrecipitationHardened,
-        _ => Metal::Certified(0),
-    }
-}
-
 pub(crate) fn metal_at(line: &[u8], n: usize) -> Metal
     requires { ⌜ n ≤ 8 ⌝ }
 {
-    metal_of(u8_at(line, n), u16_at(line, n + 1))
+    factors::choose_metal(u8_at(line, n), u16_at(line, n + 1))
 }
 
 pub(crate) fn pipe_at(line: &[u8], n: usize) -> Pipe

@@ -4,7 +4,7 @@ ghost use mathlib.Core.Path.{_≡_};
 ghost use Prim.Native.Nat.{_*_, _≤_, _<_, _^_};
 ghost use lib.ListN.{length, getD};
 ghost use Rattle.exact.specs.Rounding.{rounded, _over_};
-ghost use Rattle.factors.specs.Metal.{coefficientOf, metalOk};
+ghost use Rattle.factors.specs.Metal.{coefficientOf, metalOk, metalBy};
 ghost use Rattle.factors.specs.Places.{digits};
 ghost use Rattle.factors.specs.Answers.{told, valueOrZero, pipeOk, ctsOf, cpsOf, cplOf, heldBy, combinedOf, combinedOrZero};
 use exact::Quotient;
@@ -72,6 +72,25 @@ pub fn is_metal(metal: Metal) -> bool
     ensures { λ r. ⌜ r ≡ metalOk metal ⌝ }
 {
     ranges::is_within(coefficient(metal) as u64, 100, 400)
+}
+
+// The metal that a caller's two numbers name: a code and a certified coefficient, 0 where there is none.
+pub fn choose_metal(code: u8, certified: u16) -> Metal
+    ensures { λ r. ⌜ r ≡ metalBy code certified ⌝ }
+{
+    if 4 < code {
+        return Metal::Certified(0);
+    }
+    if certified != 0 {
+        return Metal::Certified(certified);
+    }
+    match code {
+        0 => Metal::MildCarbon,
+        1 => Metal::Stainless304,
+        2 => Metal::Stainless316,
+        3 => Metal::PrecipitationHardened,
+        _ => Metal::Certified(0),
+    }
 }
 
 // The pipe's diameter, wall and modulus are in range.

@@ -1,0 +1,133 @@
+// 01, 'Proving, by pipe prover', for C.
+ghost use mathlib.Core.Path.{_≡_};
+ghost use lib.ListN.{length};
+ghost use Rattle.report.specs.Judged.{leftBy, told as toldReport};
+ghost use Rattle.run.specs.Answers.{told, shownOf};
+ghost use Rattle.proving.specs.Job.{jobOf, foundOf};
+ghost use Rattle.api.specs.Given.{proverBy};
+ghost use Rattle.api.specs.Flat.{flatReport, flatRun, partOf, partIn};
+use crate::reports;
+use crate::reports::EndakuroReport;
+use crate::settings;
+use crate::settings::EndakuroProver;
+use report::Answer;
+use run::Worked;
+
+// A part of the lent records, in bytes; both are 0 where there is none.
+#[repr(C)]
+pub struct EndakuroPart {
+    pub start: usize,
+    pub length: usize,
+}
+
+// One run's figures, at 4 places; volumes are in 0.0001 barrel.
+#[repr(C)]
+pub struct EndakuroRun {
+    pub number: u16,
+    pub at: u16,
+    pub indicated: u64,
+    pub cts: u64,
+    pub cps: u64,
+    pub prover_cpl: u64,
+    pub prover_factor: u64,
+    pub meter_cpl: u64,
+    pub meter_product: u64,
+    pub prover_volume: u64,
+    pub meter_volume: u64,
+    pub factor: u64,
+}
+
+// The job: its report is written into the lent 32 bytes, or every byte is left as found. K is in 0.001
+// pulse per barrel, the limit in 1 in 10,000.
+#[no_mangle]
+pub extern "C" fn endakuro_prove(
+    request: u32,
+    prover: EndakuroProver,
+    k: u32,
+    limit: u16,
+    records: &[u8],
+    buffer: &mut [u8],
+) -> EndakuroReport
+    ensures answer { λ r. ⌜ r ≡ flatReport (jobOf request (proverBy prover) k limit (now (records .entry)) (length (now (buffer .entry)))) ⌝ }
+    ensures left { λ _. ⌜ now (buffer .exit) ≡ leftBy (jobOf request (proverBy prover) k limit (now (records .entry)) (length (now (buffer .entry)))) (now (buffer .entry)) ⌝ }
+{
+    let settings = settings::take_up(prover);
+    reports::flatten(proving::prove(request, settings, k, limit, records, buffer))
+}
+
+// The five accepted run records, as a part of the lent records; none, and no number, on refusal. The place
+// is that of the report which the job would write.
+#[no_mangle]
+pub extern "C" fn endakuro_accept(
+    prover: EndakuroProver,
+    k: u32,
+    limit: u16,
+    records: &[u8],
+) -> EndakuroPart
+    ensures { λ r. ⌜ r ≡ partOf (foundOf (proverBy prover) k limit (now (records .entry))) ⌝ }
+{
+    let settings = settings::take_up(prover);
+    let mut unread = [0u8; 32];
+    let job = proving::prove(1, settings, k, limit, records, &mut unread);
+    match job {
+        Answer::Fields(report) => EndakuroPart {
+            start: 32 * (report.first as usize - 1),
+            length: 160,
+        },
+        Answer::Refused(_) => EndakuroPart {
+            start: 0,
+            length: 0,
+        },
+    }
+}
+
+fn flatten_run(worked: Worked) -> EndakuroRun
+    ensures { λ r. ⌜ r ≡ flatRun (told worked) ⌝ }
+{
+    match worked {
+        Worked::Figures(figures) => {
+            let prover = figures.prover;
+            let meter = figures.meter;
+            EndakuroRun {
+                number: 0,
+                at: 0,
+                indicated: figures.indicated,
+                cts: figures.cts,
+                cps: figures.cps,
+                prover_cpl: prover.cpl,
+                prover_factor: prover.factor,
+                meter_cpl: meter.cpl,
+                meter_product: meter.factor,
+                prover_volume: prover.volume,
+                meter_volume: meter.volume,
+                factor: figures.factor,
+            }
+        }
+        Worked::Refused(refusal) => {
+            let given = refusals::give_back(refusal);
+            EndakuroRun {
+                number: given.number as u16,
+                at: given.at,
+                indicated: 0,
+                cts: 0,
+                cps: 0,
+                prover_cpl: 0,
+                prover_factor: 0,
+                meter_cpl: 0,
+                meter_product: 0,
+                prover_volume: 0,
+                meter_volume: 0,
+                factor: 0,
+            }
+        }
+    }
+}
+
+// One run's figures from its record alone.
+#[no_mangle]
+pub extern "C" fn endakuro_run(prover: EndakuroProver, k: u32, bytes: &[u8]) -> EndakuroRun
+    ensures { λ r. ⌜ r ≡ flatRun (shownOf (proverBy prover) k (now (bytes .entry))) ⌝ }
+{
+    let settings = settings::take_up(prover);
+    flatten_run(run::show(settings, k, bytes))
+}
