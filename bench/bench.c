@@ -31,7 +31,7 @@ static void work_through(const Kind *kind, Chance *chance, long chunks, Measured
             measured->seconds[side] += now() - begin;
         }
         measured->made += CHUNK;
-        measured->differences += kind->differences(PLAIN) + kind->differences(BARE);
+        for (int side = PLAIN; side < SIDES; side++) measured->differences += kind->differences(side);
     }
 }
 
@@ -41,8 +41,9 @@ static void work_through_damaged(const Kind *kind, Chance *chance, long chunks, 
         kind->make(chance, true);
         kind->work(OURS);
         kind->work(PLAIN);
+        kind->work(BITWISE);
         measured->damaged += CHUNK;
-        measured->differences += kind->differences(PLAIN);
+        measured->differences += kind->differences(PLAIN) + kind->differences(BITWISE);
     }
 }
 
@@ -56,25 +57,38 @@ static Measured measure(const Kind *kind, long share) {
     return measured;
 }
 
+static void print_head(void) {
+    static const char *const sides[] = {"plain C", "unchecked", "bitwise"};
+    printf("%-20s %9s %9s", "", "count", "ours, s");
+    for (int side = PLAIN; side < SIDES; side++) printf(" %12s %7s", sides[side - PLAIN], "ratio");
+    putchar('\n');
+}
+
+static void print_row(const Kind *kind, const Measured *measured) {
+    double ours = measured->seconds[OURS];
+    printf("%-20s %9ld %9.3f", kind->name, measured->made, ours);
+    for (int side = PLAIN; side < SIDES; side++)
+        printf(" %12.3f %7.2f", measured->seconds[side], ours / measured->seconds[side]);
+    putchar('\n');
+    fflush(stdout);
+}
+
 int main(int words, char **word) {
     long share = words > 1 ? strtol(word[1], NULL, 10) : 1;
     if (share < 1) {
         fprintf(stderr, "bench: SHARE is 1 or more\n");
         return 2;
     }
-    long answers = 0, refused = 0, differences = 0;
-    printf("%-20s %10s %11s %11s %7s %11s %7s\n", "", "count", "ours, s", "plain C, s", "ratio", "unchecked", "ratio");
+    long good = 0, damaged = 0, differences = 0;
+    print_head();
     for (size_t i = 0; i < sizeof kinds / sizeof *kinds; i++) {
-        Measured m = measure(kinds[i], share);
-        double ours = m.seconds[OURS], plain = m.seconds[PLAIN], bare = m.seconds[BARE];
-        printf("%-20s %10ld %11.3f %11.3f %7.2f %11.3f %7.2f\n", kinds[i]->name, m.made, ours, plain, ours / plain, bare,
-               ours / bare);
-        fflush(stdout);
-        answers += m.made;
-        refused += m.damaged;
-        differences += m.differences;
+        Measured measured = measure(kinds[i], share);
+        print_row(kinds[i], &measured);
+        good += measured.made;
+        damaged += measured.damaged;
+        differences += measured.differences;
     }
-    printf("answers compared: %ld to good inputs, %ld to inputs with faults; differences %ld\n", answers, refused,
+    printf("bench: answers compared: %ld to good inputs, %ld to inputs with faults; differences %ld\n", good, damaged,
            differences);
     return differences != 0;
 }

@@ -49,7 +49,7 @@ static void make(Chance *chance, bool damaged) {
                            .t = between(chance, 500, 900),
                            .coefficient = between(chance, 150, 300),
                            .ctdw = between(chance, 999000, 1001000)};
-        measure.scatter = measure.certified / between(chance, 5000, 40000);
+        measure.scatter = measure.certified / between(chance, 2000, 20000);
         int64_t passes = between(chance, 3, 10), fills = between(chance, 1, 5);
         uint8_t *record = draw->records;
         for (int64_t pass = 1; pass <= passes; pass++) {
@@ -64,7 +64,7 @@ static void make(Chance *chance, bool damaged) {
 
 static void work(int side) {
     typedef EndakuroDraw Work(EndakuroProver, const uint8_t *, size_t);
-    static Work *const draw[SIDES] = {endakuro_draw, plain_draw, bare_draw};
+    static Work *const draw[SIDES] = {endakuro_draw, plain_draw, bare_draw, bitwise_draw};
     for (int i = 0; i < CHUNK; i++)
         answers[side][i] = draw[side](inputs[i].prover, inputs[i].records, inputs[i].size);
 }

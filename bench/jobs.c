@@ -44,7 +44,7 @@ static void damage(Chance *chance, Job *job) {
     case 0: job->request = 0; break;
     case 1: job->room = (size_t)between(chance, 30, 34); break;
     case 2: job->size = (size_t)between(chance, 0, BYTES); break;
-    case 3: job->k = once_in(chance, 2) ? 0 : (uint32_t)any(chance); break;
+    case 3: job->k = (uint32_t)(once_in(chance, 2) ? between(chance, 0, 100) : between(chance, 0, UINT32_MAX)); break;
     case 4: job->limit = (uint16_t)between(chance, 0, 102); break;
     case 5: damage_prover(chance, &job->prover); break;
     default: job->records[between(chance, 0, BYTES - 1)] = (uint8_t)any(chance);
@@ -61,7 +61,7 @@ static void make(Chance *chance, bool damaged) {
         job->size = BYTES;
         job->room = RECORD_BYTES;
         int64_t pulses = (int64_t)job->prover.base * job->k / 10000000;
-        int64_t scatter = between(chance, 5, 100), ctl = between(chance, 9500, 10200), f = between(chance, 300, 1000);
+        int64_t scatter = between(chance, 5, 60), ctl = between(chance, 9500, 10200), f = between(chance, 300, 1000);
         for (int run = 0; run < RUNS; run++)
             make_run(chance, job->records + RECORD_BYTES * run, pulses, scatter, ctl, f);
         if (damaged) damage(chance, job);
@@ -73,7 +73,7 @@ static void make(Chance *chance, bool damaged) {
 typedef EndakuroReport Prove(uint32_t, EndakuroProver, uint32_t, uint16_t, const uint8_t *, size_t, uint8_t *, size_t);
 
 static void work(int side) {
-    static Prove *const prove[SIDES] = {endakuro_prove, plain_prove, bare_prove};
+    static Prove *const prove[SIDES] = {endakuro_prove, plain_prove, bare_prove, bitwise_prove};
     for (int i = 0; i < CHUNK; i++) {
         const Job *job = &inputs[i];
         Answer *answer = &answers[side][i];

@@ -5,7 +5,7 @@
 
 enum { CHUNK = 1000 };
 
-enum { OURS, PLAIN, BARE, SIDES };
+enum { OURS, PLAIN, BARE, BITWISE, SIDES };
 
 typedef struct {
     const char *name;

@@ -3,5 +3,6 @@
 
 #define NAMED(function) plain_##function
 #define JUDGING true
+#define BIT_AT_A_TIME false
 
 #include "plain/all.h"

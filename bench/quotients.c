@@ -28,7 +28,8 @@ static void make(Chance *chance, bool damaged) {
 
 static void work(int side) {
     typedef EndakuroQuotient Work(uint64_t, uint64_t, uint64_t);
-    static Work *const divide[SIDES] = {endakuro_rounded_ratio, plain_rounded_ratio, bare_rounded_ratio};
+    static Work *const divide[SIDES] = {endakuro_rounded_ratio, plain_rounded_ratio, bare_rounded_ratio,
+                                        bitwise_rounded_ratio};
     for (int i = 0; i < CHUNK; i++) answers[side][i] = divide[side](inputs[i].a, inputs[i].b, inputs[i].d);
 }
 

@@ -33,7 +33,7 @@ static void make(Chance *chance, bool damaged) {
 
 static void work(int side) {
     typedef EndakuroLive Work(float, float);
-    static Work *const live[SIDES] = {endakuro_live, plain_live, bare_live};
+    static Work *const live[SIDES] = {endakuro_live, plain_live, bare_live, bitwise_live};
     for (int i = 0; i < CHUNK; i++) answers[side][i] = live[side](inputs[i].temperature, inputs[i].pressure);
 }
 

@@ -33,7 +33,7 @@ static void make(Chance *chance, bool damaged) {
 
 static void work(int side) {
     typedef EndakuroVolumes Work(EndakuroTicket);
-    static Work *const ticket[SIDES] = {endakuro_ticket, plain_ticket, bare_ticket};
+    static Work *const ticket[SIDES] = {endakuro_ticket, plain_ticket, bare_ticket, bitwise_ticket};
     for (int i = 0; i < CHUNK; i++) answers[side][i] = ticket[side](inputs[i]);
 }
 

@@ -1,7 +1,7 @@
 """The C face: the header as C11 and C++17, its declarations against the Rattle source, every function through the linked archive
 beside the line program, and the example.
 
-Run: python3 tests/c_face.py [--lines N] [--seed S]     once `rt check endakuro` and `rt staticlib api` have built what it links and drives
+Run: python3 tests/c_face.py [--lines N] [--seed S]     once `rt check endakuro` has built the line program
 """
 
 import argparse
@@ -50,7 +50,6 @@ def header():
 
 
 def build(name, source):
-    BUILT.mkdir(parents=True, exist_ok=True)
     program = BUILT / name
     done = subprocess.run([ROOT / "tests" / "c" / "build", program, ROOT / source], capture_output=True)
     if done.returncode:

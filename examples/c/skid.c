@@ -1,6 +1,6 @@
 // A prover skid's morning: two shippers ask for the prover, each gets its job in turn, and every report is
 // written and read back. A bad frame costs nobody the morning.
-//     rt staticlib api && tests/c/build target/c/skid examples/c/skid.c && tests/c/run target/c/skid
+//     tests/c/build target/c/skid examples/c/skid.c && tests/c/run target/c/skid
 #include <endakuro.h>
 #include <stdio.h>
 
