@@ -43,8 +43,11 @@ valuesIn zeros (done values) = values
 valuesIn zeros (refused number at) = zeros
 
 -- a correction factor
-abbrev pub flatFactor : Told ℕ → EndakuroFactor
-flatFactor t = record { number = numberIn t; at = recordIn t; value = valuesIn 0 t }
+abbrev pub factorWith : ℕ → ℕ → ℕ → EndakuroFactor
+factorWith number at value = record { number = number; at = at; value = value }
+
+unfoldable pub flatFactor : Told ℕ → EndakuroFactor
+flatFactor t = factorWith (numberIn t) (recordIn t) (valuesIn 0 t)
 
 -- a report, of a job or read back
 abbrev pub noReport : Report
@@ -88,12 +91,12 @@ runWith number at figures =
       indicated = figures .indicated;
       cts = figures .cts;
       cps = figures .cps;
-      prover-cpl = figures .prover .cpl;
-      prover-factor = figures .prover .factor;
-      meter-cpl = figures .meter .cpl;
-      meter-product = figures .meter .factor;
-      prover-volume = figures .prover .volume;
-      meter-volume = figures .meter .volume;
+      provercpl = figures .prover .cpl;
+      proverfactor = figures .prover .factor;
+      metercpl = figures .meter .cpl;
+      meterproduct = figures .meter .factor;
+      provervolume = figures .prover .volume;
+      metervolume = figures .meter .volume;
       factor = figures .factor;
     }
 
@@ -120,8 +123,11 @@ unfoldable pub flatFill : Told FillFigures → EndakuroFill
 flatFill t = fillWith (numberIn t) (recordIn t) (valuesIn noFill t)
 
 -- the count of passes, and their volumes, which are all zero on refusal
-abbrev pub flatPasses : Told ℕ → List ℕ → EndakuroPasses
-flatPasses t volumes = record { number = numberIn t; at = recordIn t; count = valuesIn 0 t; volumes = volumes }
+abbrev pub passesWith : ℕ → ℕ → ℕ → List ℕ → EndakuroPasses
+passesWith number at count volumes = record { number = number; at = at; count = count; volumes = volumes }
+
+unfoldable pub flatPasses : Told ℕ → List ℕ → EndakuroPasses
+flatPasses t volumes = passesWith (numberIn t) (recordIn t) (valuesIn 0 t) volumes
 
 -- the base volume
 abbrev pub noBase : BaseVolume
@@ -154,7 +160,7 @@ unfoldable pub flatLive : Told Values → EndakuroLive
 flatLive t = liveWith (numberIn t) (recordIn t) (valuesIn noReading t)
 
 -- a request or a withdrawal: nothing but the number and the record
-abbrev pub flatDone : Told Unit → EndakuroDone
+unfoldable pub flatDone : Told Unit → EndakuroDone
 flatDone t = record { number = numberIn t; at = recordIn t }
 
 -- what a take hands out

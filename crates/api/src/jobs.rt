@@ -1,11 +1,11 @@
 // 01, 'Proving, by pipe prover', for C.
 ghost use mathlib.Core.Path.{_≡_};
 ghost use lib.ListN.{length};
-ghost use Rattle.report.specs.Judged.{leftBy, told as toldReport};
+ghost use Rattle.report.specs.Judged.{leftBy};
 ghost use Rattle.run.specs.Answers.{told, shownOf};
 ghost use Rattle.proving.specs.Job.{jobOf, foundOf};
 ghost use Rattle.api.specs.Given.{proverBy};
-ghost use Rattle.api.specs.Flat.{flatReport, flatRun, partOf, partIn};
+ghost use Rattle.api.specs.Flat.{flatReport, flatRun, partOf};
 use crate::reports;
 use crate::reports::EndakuroReport;
 use crate::settings;
@@ -28,12 +28,12 @@ pub struct EndakuroRun {
     pub indicated: u64,
     pub cts: u64,
     pub cps: u64,
-    pub prover_cpl: u64,
-    pub prover_factor: u64,
-    pub meter_cpl: u64,
-    pub meter_product: u64,
-    pub prover_volume: u64,
-    pub meter_volume: u64,
+    pub provercpl: u64,
+    pub proverfactor: u64,
+    pub metercpl: u64,
+    pub meterproduct: u64,
+    pub provervolume: u64,
+    pub metervolume: u64,
     pub factor: u64,
 }
 
@@ -94,12 +94,12 @@ fn flatten_run(worked: Worked) -> EndakuroRun
                 indicated: figures.indicated,
                 cts: figures.cts,
                 cps: figures.cps,
-                prover_cpl: prover.cpl,
-                prover_factor: prover.factor,
-                meter_cpl: meter.cpl,
-                meter_product: meter.factor,
-                prover_volume: prover.volume,
-                meter_volume: meter.volume,
+                provercpl: prover.cpl,
+                proverfactor: prover.factor,
+                metercpl: meter.cpl,
+                meterproduct: meter.factor,
+                provervolume: prover.volume,
+                metervolume: meter.volume,
                 factor: figures.factor,
             }
         }
@@ -111,12 +111,12 @@ fn flatten_run(worked: Worked) -> EndakuroRun
                 indicated: 0,
                 cts: 0,
                 cps: 0,
-                prover_cpl: 0,
-                prover_factor: 0,
-                meter_cpl: 0,
-                meter_product: 0,
-                prover_volume: 0,
-                meter_volume: 0,
+                provercpl: 0,
+                proverfactor: 0,
+                metercpl: 0,
+                meterproduct: 0,
+                provervolume: 0,
+                metervolume: 0,
                 factor: 0,
             }
         }

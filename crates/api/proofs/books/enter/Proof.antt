@@ -1,22 +1,18 @@
+-- `api::books::enter` meets its contract: the book is that of `book::request`, and its answer is flattened.
+use mathlib.Core.Path.{_≡_, ap, _∙_}
+use Rattle.api.specs.Flat.{flatDone}
 use borrow.Author.Needs.{needs}
 use Rattle.api.proofs.books.enter.Statement.{statement}
 use Rattle.api.proofs.books.enter.Tie as tie
-use Rattle.api.proofs.books.enter.Reads as reads
-use Rattle.api.proofs.books.enter.Lts as lts
-use Rattle.api.proofs.books.flatten_entry.Reads as flatten-entry-reads
-use Rattle.book.proofs.request.Reads as request-reads
 
--- src/books.rt:96:9
 request-requires : tie.Need-request-requires
 request-requires c κs = search needs
 
--- src/books.rt:101:17
 flatten-entry-requires : tie.Need-flatten-entry-requires
 flatten-entry-requires c κs = search needs
 
--- src/books.rt:93:1
 returns : tie.Need-returns
-returns c = ?
+returns c = (c .flatten-entry .ensures ∙ ap flatDone (c .before .before .request .ensures .0), c .before .before .request .ensures .1)
 
 pub enter-spec : {M : Type 1} → statement M
 enter-spec = tie.close (tie.spec request-requires flatten-entry-requires returns)

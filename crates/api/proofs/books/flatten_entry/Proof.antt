@@ -1,33 +1,33 @@
+-- `api::books::flatten_entry` meets its contract: each case of the answer is told as it is flattened.
+use mathlib.Core.Path.{_≡_, ap, sym, _∙_}
 use borrow.Author.Needs.{needs}
+use Rattle.refusals.specs.declared.GivenBack.{GivenBack}
+use Rattle.book.specs.Answers.{toldEntry}
+use Rattle.book.specs.declared.Entry.{Entry}
+use Rattle.api.specs.Flat.{flatDone}
+use Rattle.api.specs.declared.books.EndakuroDone.{EndakuroDone}
 use Rattle.api.proofs.books.flatten_entry.Statement.{statement}
 use Rattle.api.proofs.books.flatten_entry.Tie as tie
-use Rattle.api.proofs.books.flatten_entry.Reads as reads
-use Rattle.api.proofs.books.flatten_entry.Lts as lts
-use Rattle.refusals.proofs.give_back.Reads as give-back-reads
 
--- src/books.rt:45:27
 enum-told : tie.Need-enum-told
 enum-told c = search needs
 
--- src/books.rt:46:24
 enum-known-answer : tie.Need-enum-known-answer
 enum-known-answer c = search needs
 
--- src/books.rt:47:17
 give-back-requires : tie.Need-give-back-requires
 give-back-requires c κs = search needs
 
--- src/books.rt:49:25
 cast-t5 : tie.Need-cast-t5
 cast-t5 c = search needs
 
--- src/books.rt:41:1
 returns : tie.Need-returns
-returns c = ?
+unfolding flatDone
+returns c = sym (ap (λ (a : Entry). flatDone (toldEntry a)) (c .enum-told .given .1))
 
--- src/books.rt:41:1
 returns-2 : tie.Need-returns-2
-returns-2 c = ?
+unfolding flatDone
+returns-2 c = (λ i. record { number = c .before .give-back .ensures i .number; at = c .before .give-back .ensures i .at }) ∙ sym (ap (λ (a : Entry). flatDone (toldEntry a)) (c .before .before .before .answer .given .1))
 
 pub flatten-entry-spec : {M : Type 1} → statement M
 flatten-entry-spec =

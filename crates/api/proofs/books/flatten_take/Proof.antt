@@ -1,33 +1,32 @@
+-- `api::books::flatten_take` meets its contract: each case of the answer is told as it is flattened.
+use mathlib.Core.Path.{_≡_, ap, sym, _∙_}
 use borrow.Author.Needs.{needs}
+use Rattle.refusals.specs.declared.GivenBack.{GivenBack}
+use Rattle.book.specs.Answers.{toldTake}
+use Rattle.book.specs.declared.Handout.{Handout}
+use Rattle.api.specs.Flat.{flatTaken, takenWith, noHandout}
 use Rattle.api.proofs.books.flatten_take.Statement.{statement}
 use Rattle.api.proofs.books.flatten_take.Tie as tie
-use Rattle.api.proofs.books.flatten_take.Reads as reads
-use Rattle.api.proofs.books.flatten_take.Lts as lts
-use Rattle.refusals.proofs.give_back.Reads as give-back-reads
 
--- src/books.rt:75:25
 enum-known-answer : tie.Need-enum-known-answer
 enum-known-answer c = search needs
 
--- src/books.rt:81:26
 enum-known-answer-2 : tie.Need-enum-known-answer-2
 enum-known-answer-2 c = search needs
 
--- src/books.rt:82:17
 give-back-requires : tie.Need-give-back-requires
 give-back-requires c κs = search needs
 
--- src/books.rt:84:25
 cast-t7 : tie.Need-cast-t7
 cast-t7 c = search needs
 
--- src/books.rt:71:1
 returns : tie.Need-returns
-returns c = ?
+unfolding flatTaken
+returns c = sym (ap (λ (a : Handout). flatTaken (toldTake a)) (c .before .answer .given .1))
 
--- src/books.rt:71:1
 returns-2 : tie.Need-returns-2
-returns-2 c = ?
+unfolding flatTaken
+returns-2 c = ap (λ (g : GivenBack). takenWith (g .number) (g .at) noHandout) (c .before .give-back .ensures) ∙ sym (ap (λ (a : Handout). flatTaken (toldTake a)) (c .before .before .before .answer2 .given .1))
 
 pub flatten-take-spec : {M : Type 1} → statement M
 flatten-take-spec =

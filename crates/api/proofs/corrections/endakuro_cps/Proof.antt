@@ -1,27 +1,25 @@
+-- `api::corrections::endakuro_cps` meets its contract: the answer of `factors::cps`, flattened.
+use mathlib.Core.Path.{_≡_, ap, _∙_}
+use Rattle.factors.specs.Answers.{cpsOf}
+use Rattle.factors.specs.Places.{digits}
+use Rattle.factors.specs.declared.Places.{Places}
+use Rattle.api.specs.Given.{pipeBy}
+use Rattle.api.specs.Flat.{flatFactor}
 use borrow.Author.Needs.{needs}
 use Rattle.api.proofs.corrections.endakuro_cps.Statement.{statement}
 use Rattle.api.proofs.corrections.endakuro_cps.Tie as tie
-use Rattle.api.proofs.corrections.endakuro_cps.Reads as reads
-use Rattle.api.proofs.corrections.endakuro_cps.Lts as lts
-use Rattle.api.proofs.corrections.flatten.Reads as flatten-reads
-use Rattle.api.proofs.settings.choose_places.Reads as choose-places-reads
-use Rattle.factors.proofs.cps.Reads as cps-reads
 
--- src/corrections.rt:65:35
 choose-places-requires : tie.Need-choose-places-requires
 choose-places-requires c κs = search needs
 
--- src/corrections.rt:65:13
 cps-requires : tie.Need-cps-requires
 cps-requires c κs = search needs
 
--- src/corrections.rt:65:5
 flatten-requires : tie.Need-flatten-requires
 flatten-requires c κs = search needs
 
--- src/corrections.rt:50:1
 returns : tie.Need-returns
-returns c = ?
+returns c = let a = c .before .before .before .args in c .flatten .ensures ∙ ap flatFactor (c .before .cps .ensures ∙ ap (λ (d : Places). cpsOf (digits d) (pipeBy (a .diameter) (a .wall) (a .modulus)) (a .p)) (c .before .before .choose-places .ensures))
 
 pub endakuro-cps-spec : {M : Type 1} → statement M
 endakuro-cps-spec =

@@ -1,37 +1,30 @@
+-- `api::quotients::endakuro_rounded_ratio` meets its contract: each case of the quotient is flattened.
+use mathlib.Core.Path.{_≡_, ap, sym, _∙_}
+use Rattle.api.specs.Flat.{flatQuotient}
 use borrow.Author.Needs.{needs}
 use Rattle.api.proofs.quotients.endakuro_rounded_ratio.Statement.{statement}
 use Rattle.api.proofs.quotients.endakuro_rounded_ratio.Tie as tie
-use Rattle.api.proofs.quotients.endakuro_rounded_ratio.Reads as reads
-use Rattle.api.proofs.quotients.endakuro_rounded_ratio.Lts as lts
-use Rattle.exact.proofs.rounded_ratio.Reads as rounded-ratio-reads
 
--- src/quotients.rt:20:9
 rounded-ratio-requires : tie.Need-rounded-ratio-requires
 rounded-ratio-requires c κs = search needs
 
--- src/quotients.rt:22:25
 enum-known-quotient : tie.Need-enum-known-quotient
 enum-known-quotient c = search needs
 
--- src/quotients.rt:23:34
 enum-told : tie.Need-enum-told
 enum-told c = search needs
 
--- src/quotients.rt:24:31
 enum-told-2 : tie.Need-enum-told-2
 enum-told-2 c = search needs
 
--- src/quotients.rt:16:1
 returns : tie.Need-returns
-returns c = ?
+returns c = ap flatQuotient (sym (c .before .quotient .given .1) ∙ c .before .before .before .rounded-ratio .ensures)
 
--- src/quotients.rt:16:1
 returns-2 : tie.Need-returns-2
-returns-2 c = ?
+returns-2 c = ap flatQuotient (sym (c .enum-told .given .1) ∙ c .before .before .rounded-ratio .ensures)
 
--- src/quotients.rt:16:1
 returns-3 : tie.Need-returns-3
-returns-3 c = ?
+returns-3 c = ap flatQuotient (sym (c .enum-told2 .given .1) ∙ c .before .before .rounded-ratio .ensures)
 
 pub endakuro-rounded-ratio-spec : {M : Type 1} → statement M
 endakuro-rounded-ratio-spec =

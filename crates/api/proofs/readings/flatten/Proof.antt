@@ -1,33 +1,40 @@
+-- `api::readings::flatten` meets its contract: each case of the answer is flattened as it is told.
+use mathlib.Core.Path.{_≡_, ap, sym, _∙_}
+use lib.IntN.{ℤ}
+use mir.Syntax.{w16}
+use mir.Val.{toZ, ofZ}
+use Rattle.refusals.specs.declared.GivenBack.{GivenBack}
+use Rattle.live.specs.Live.{told}
+use Rattle.live.specs.declared.Live.{Live}
+use Rattle.api.specs.declared.readings.EndakuroLive.{EndakuroLive}
+use Rattle.api.specs.Flat.{flatLive, liveWith, noReading}
 use borrow.Author.Needs.{needs}
 use Rattle.api.proofs.readings.flatten.Statement.{statement}
 use Rattle.api.proofs.readings.flatten.Tie as tie
-use Rattle.api.proofs.readings.flatten.Reads as reads
-use Rattle.api.proofs.readings.flatten.Lts as lts
-use Rattle.refusals.proofs.give_back.Reads as give-back-reads
 
--- src/readings.rt:21:23
 enum-known-live : tie.Need-enum-known-live
 enum-known-live c = search needs
 
--- src/readings.rt:27:23
 enum-known-live-2 : tie.Need-enum-known-live-2
 enum-known-live-2 c = search needs
 
--- src/readings.rt:28:17
 give-back-requires : tie.Need-give-back-requires
 give-back-requires c κs = search needs
 
--- src/readings.rt:30:25
 cast-t7 : tie.Need-cast-t7
 cast-t7 c = search needs
 
--- src/readings.rt:17:1
-returns : tie.Need-returns
-returns c = ?
+-- what the machine reads back of a signed number is that number
+tenths-back : (c : tie.After-known-told) → toZ w16 (ofZ w16 (c .before .live .given .0 .0)) ≡ c .before .live .given .0 .0
+tenths-back c = search needs
 
--- src/readings.rt:17:1
+returns : tie.Need-returns
+unfolding flatLive told
+returns c = (λ i. record { number = 0; at = 0; tenths = tenths-back c i; psi = c .before .live .given .0 .1 .0 }) ∙ sym (ap (λ (a : Live). flatLive (told a)) (c .before .live .given .1))
+
 returns-2 : tie.Need-returns-2
-returns-2 c = ?
+unfolding flatLive told
+returns-2 c = ap (λ (g : GivenBack). liveWith (g .number) (g .at) noReading) (c .before .give-back .ensures) ∙ sym (ap (λ (a : Live). flatLive (told a)) (c .before .before .before .live2 .given .1))
 
 pub flatten-spec : {M : Type 1} → statement M
 flatten-spec =

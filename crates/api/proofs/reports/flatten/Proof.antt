@@ -1,33 +1,32 @@
+-- `api::reports::flatten` meets its contract: each case of the answer is flattened as it is told.
+use mathlib.Core.Path.{_≡_, ap, sym, _∙_}
+use Rattle.refusals.specs.declared.GivenBack.{GivenBack}
+use Rattle.report.specs.Judged.{told}
+use Rattle.report.specs.declared.Answer.{Answer}
+use Rattle.api.specs.Flat.{flatReport, reportWith, noReport}
 use borrow.Author.Needs.{needs}
 use Rattle.api.proofs.reports.flatten.Statement.{statement}
 use Rattle.api.proofs.reports.flatten.Tie as tie
-use Rattle.api.proofs.reports.flatten.Reads as reads
-use Rattle.api.proofs.reports.flatten.Lts as lts
-use Rattle.refusals.proofs.give_back.Reads as give-back-reads
 
--- src/reports.rt:44:24
 enum-known-answer : tie.Need-enum-known-answer
 enum-known-answer c = search needs
 
--- src/reports.rt:60:25
 enum-known-answer-2 : tie.Need-enum-known-answer-2
 enum-known-answer-2 c = search needs
 
--- src/reports.rt:61:17
 give-back-requires : tie.Need-give-back-requires
 give-back-requires c κs = search needs
 
--- src/reports.rt:63:25
 cast-t7 : tie.Need-cast-t7
 cast-t7 c = search needs
 
--- src/reports.rt:40:1
 returns : tie.Need-returns
-returns c = ?
+unfolding flatReport
+returns c = sym (ap (λ (a : Answer). flatReport (told a)) (c .before .before .answer .given .1))
 
--- src/reports.rt:40:1
 returns-2 : tie.Need-returns-2
-returns-2 c = ?
+unfolding flatReport
+returns-2 c = ap (λ (g : GivenBack). reportWith (g .number) (g .at) noReport) (c .before .give-back .ensures) ∙ sym (ap (λ (a : Answer). flatReport (told a)) (c .before .before .before .answer2 .given .1))
 
 pub flatten-spec : {M : Type 1} → statement M
 flatten-spec =

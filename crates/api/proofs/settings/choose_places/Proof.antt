@@ -1,15 +1,17 @@
+-- `api::settings::choose_places` meets its contract.
+use borrow.Author.Tests.{eq-eqb, ne-eqb}
+use Rattle.api.specs.Given.{placesBy}
+use borrow.Author.Needs.{needs}
 use Rattle.api.proofs.settings.choose_places.Statement.{statement}
 use Rattle.api.proofs.settings.choose_places.Tie as tie
-use Rattle.api.proofs.settings.choose_places.Reads as reads
-use Rattle.api.proofs.settings.choose_places.Lts as lts
 
--- src/settings.rt:21:1
 returns : tie.Need-returns
-returns c = ?
+unfolding placesBy
+returns c = simp (eq-eqb _ _ (c .if1 .taken))
 
--- src/settings.rt:21:1
 returns-2 : tie.Need-returns-2
-returns-2 c = ?
+unfolding placesBy
+returns-2 c = simp (ne-eqb _ _ (c .if1 .left))
 
 pub choose-places-spec : {M : Type 1} → statement M
 choose-places-spec = tie.close (tie.spec returns returns-2)

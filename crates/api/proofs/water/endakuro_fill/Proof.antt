@@ -1,27 +1,24 @@
+-- `api::water::endakuro_fill` meets its contract: the answer of `draw::fill`, flattened.
+use mathlib.Core.Path.{_≡_, ap, _∙_}
+use denote.Ref.{now}
+use Rattle.factors.specs.declared.Metal.{Metal}
+use Rattle.draw.specs.Answers.{fillOf}
+use Rattle.api.specs.Flat.{flatFill}
 use borrow.Author.Needs.{needs}
 use Rattle.api.proofs.water.endakuro_fill.Statement.{statement}
 use Rattle.api.proofs.water.endakuro_fill.Tie as tie
-use Rattle.api.proofs.water.endakuro_fill.Reads as reads
-use Rattle.api.proofs.water.endakuro_fill.Lts as lts
-use Rattle.api.proofs.water.flatten_fill.Reads as flatten-fill-reads
-use Rattle.draw.proofs.fill.Reads as fill-reads
-use Rattle.factors.proofs.choose_metal.Reads as choose-metal-reads
 
--- src/water.rt:77:9
 choose-metal-requires : tie.Need-choose-metal-requires
 choose-metal-requires c κs = search needs
 
--- src/water.rt:78:18
 fill-requires : tie.Need-fill-requires
 fill-requires c κs = search needs
 
--- src/water.rt:78:5
 flatten-fill-requires : tie.Need-flatten-fill-requires
 flatten-fill-requires c κs = search needs
 
--- src/water.rt:73:1
 returns : tie.Need-returns
-returns c = ?
+returns c = let a = c .before .before .before .before .args in c .flatten-fill .ensures ∙ ap flatFill (c .before .fill .ensures ∙ ap (λ (m : Metal). fillOf m (now (a .bytes))) (c .before .before .choose-metal .ensures))
 
 pub endakuro-fill-spec : {M : Type 1} → statement M
 endakuro-fill-spec =

@@ -1,33 +1,32 @@
+-- `api::water::flatten_draw` meets its contract: each case of the answer is told as it is flattened.
+use mathlib.Core.Path.{_≡_, ap, sym, _∙_}
 use borrow.Author.Needs.{needs}
+use Rattle.refusals.specs.declared.GivenBack.{GivenBack}
+use Rattle.draw.specs.Answers.{toldDraw}
+use Rattle.draw.specs.declared.WaterDraw.{WaterDraw}
+use Rattle.api.specs.Flat.{flatDraw, drawWith, noBase}
 use Rattle.api.proofs.water.flatten_draw.Statement.{statement}
 use Rattle.api.proofs.water.flatten_draw.Tie as tie
-use Rattle.api.proofs.water.flatten_draw.Reads as reads
-use Rattle.api.proofs.water.flatten_draw.Lts as lts
-use Rattle.refusals.proofs.give_back.Reads as give-back-reads
 
--- src/water.rt:118:26
 enum-known-answer : tie.Need-enum-known-answer
 enum-known-answer c = search needs
 
--- src/water.rt:125:28
 enum-known-answer-2 : tie.Need-enum-known-answer-2
 enum-known-answer-2 c = search needs
 
--- src/water.rt:126:17
 give-back-requires : tie.Need-give-back-requires
 give-back-requires c κs = search needs
 
--- src/water.rt:128:25
 cast-t6 : tie.Need-cast-t6
 cast-t6 c = search needs
 
--- src/water.rt:114:1
 returns : tie.Need-returns
-returns c = ?
+unfolding flatDraw
+returns c = sym (ap (λ (a : WaterDraw). flatDraw (toldDraw a)) (c .before .answer .given .1))
 
--- src/water.rt:114:1
 returns-2 : tie.Need-returns-2
-returns-2 c = ?
+unfolding flatDraw
+returns-2 c = ap (λ (g : GivenBack). drawWith (g .number) (g .at) noBase) (c .before .give-back .ensures) ∙ sym (ap (λ (a : WaterDraw). flatDraw (toldDraw a)) (c .before .before .before .answer2 .given .1))
 
 pub flatten-draw-spec : {M : Type 1} → statement M
 flatten-draw-spec =

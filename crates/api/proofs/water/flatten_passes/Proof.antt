@@ -1,33 +1,32 @@
+-- `api::water::flatten_passes` meets its contract: each case of the answer is flattened as it is told.
+use mathlib.Core.Path.{_≡_, ap, sym, _∙_}
+use Rattle.refusals.specs.declared.GivenBack.{GivenBack}
+use Rattle.draw.specs.Answers.{toldPasses}
+use Rattle.draw.specs.declared.Counted.{Counted}
+use Rattle.api.specs.Flat.{flatPasses, passesWith}
 use borrow.Author.Needs.{needs}
 use Rattle.api.proofs.water.flatten_passes.Statement.{statement}
 use Rattle.api.proofs.water.flatten_passes.Tie as tie
-use Rattle.api.proofs.water.flatten_passes.Reads as reads
-use Rattle.api.proofs.water.flatten_passes.Lts as lts
-use Rattle.refusals.proofs.give_back.Reads as give-back-reads
 
--- src/water.rt:85:25
 enum-known-answer : tie.Need-enum-known-answer
 enum-known-answer c = search needs
 
--- src/water.rt:91:26
 enum-known-answer-2 : tie.Need-enum-known-answer-2
 enum-known-answer-2 c = search needs
 
--- src/water.rt:92:17
 give-back-requires : tie.Need-give-back-requires
 give-back-requires c κs = search needs
 
--- src/water.rt:94:25
 cast-t7 : tie.Need-cast-t7
 cast-t7 c = search needs
 
--- src/water.rt:81:1
 returns : tie.Need-returns
-returns c = ?
+unfolding flatPasses
+returns c = sym (ap (λ (a : Counted). flatPasses (toldPasses a) (c .before .before .before .args .volumes)) (c .before .answer .given .1))
 
--- src/water.rt:81:1
 returns-2 : tie.Need-returns-2
-returns-2 c = ?
+unfolding flatPasses
+returns-2 c = let s = c .before .before .before .before .before in ap (λ (g : GivenBack). passesWith (g .number) (g .at) 0 (s .args .volumes)) (c .before .give-back .ensures) ∙ sym (ap (λ (a : Counted). flatPasses (toldPasses a) (s .args .volumes)) (c .before .before .before .answer2 .given .1))
 
 pub flatten-passes-spec : {M : Type 1} → statement M
 flatten-passes-spec =

@@ -1,0 +1,30 @@
+-- `api::jobs::endakuro_prove` meets its contract: the answer of `proving::prove`, flattened, and the bytes that it leaves.
+use mathlib.Core.Path.{_≡_, ap, _∙_}
+use denote.Ref.{now}
+use lib.ListN.{length}
+use Rattle.factors.specs.declared.Prover.{Prover}
+use Rattle.report.specs.Judged.{leftBy}
+use Rattle.proving.specs.Job.{jobOf}
+use Rattle.api.specs.Flat.{flatReport}
+use borrow.Author.Needs.{needs}
+use Rattle.api.proofs.jobs.endakuro_prove.Statement.{statement}
+use Rattle.api.proofs.jobs.endakuro_prove.Tie as tie
+
+take-up-requires : tie.Need-take-up-requires
+take-up-requires c κs = search needs
+
+prove-requires : tie.Need-prove-requires
+prove-requires c κs = search needs
+
+flatten-requires : tie.Need-flatten-requires
+flatten-requires c κs = search needs
+
+same-length : tie.Need-same-length
+same-length c = search needs
+
+returns : tie.Need-returns
+returns c = let w = c .before .before .before in let a = w .before .before .before .before .before .args in let job = ap (λ (p : Prover). jobOf (a .request) p (a .k) (a .limit) (now (a .records)) (length (now (a .buffer)))) (w .before .before .take-up .ensures) in (c .flatten .ensures ∙ ap flatReport (w .prove .ensures .0 ∙ job), w .prove .ensures .1 ∙ (λ i. leftBy (job i) (now (a .buffer))))
+
+pub endakuro-prove-spec : {M : Type 1} → statement M
+endakuro-prove-spec =
+    tie.close (tie.spec take-up-requires prove-requires flatten-requires same-length returns)
