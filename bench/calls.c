@@ -36,8 +36,8 @@ static EndakuroBook some_book(Chance *chance) {
     return book;
 }
 
-static void make(Chance *chance, bool damaged) {
-    for (int i = 0; i < CHUNK; i++) {
+static void make(Chance *chance, int count, bool damaged) {
+    for (int i = 0; i < count; i++) {
         Input *input = &inputs[i];
         int64_t turn = between(chance, 0, 9);
         input->call = turn < 5 ? REQUEST : turn < 6 ? WITHDRAW : TAKE;
@@ -51,12 +51,12 @@ static void make(Chance *chance, bool damaged) {
 typedef EndakuroDone Change(EndakuroBook *, uint8_t, uint32_t);
 typedef EndakuroTaken Take(EndakuroBook *);
 
-static void work(int side) {
+static void work(int side, int count) {
     static Change *const request[SIDES] = {endakuro_request, plain_request, bare_request, bitwise_request};
     static Change *const withdraw[SIDES] = {endakuro_withdraw, plain_withdraw, bare_withdraw, bitwise_withdraw};
     static Take *const take[SIDES] = {endakuro_take, plain_take, bare_take, bitwise_take};
     EndakuroBook *book = &kept[side];
-    for (int i = 0; i < CHUNK; i++) {
+    for (int i = 0; i < count; i++) {
         const Input *input = &inputs[i];
         EndakuroTaken *answer = &answers[side][i];
         if (input->replaces) *book = input->offered;

@@ -41,8 +41,8 @@ static void damage(Chance *chance, Draw *draw) {
     }
 }
 
-static void make(Chance *chance, bool damaged) {
-    for (int i = 0; i < CHUNK; i++) {
+static void make(Chance *chance, int count, bool damaged) {
+    for (int i = 0; i < count; i++) {
         Draw *draw = &inputs[i];
         draw->prover = some_prover(chance);
         Measure measure = {.certified = between(chance, 100000, 5000000),
@@ -62,10 +62,10 @@ static void make(Chance *chance, bool damaged) {
     }
 }
 
-static void work(int side) {
+static void work(int side, int count) {
     typedef EndakuroDraw Work(EndakuroProver, const uint8_t *, size_t);
     static Work *const draw[SIDES] = {endakuro_draw, plain_draw, bare_draw, bitwise_draw};
-    for (int i = 0; i < CHUNK; i++)
+    for (int i = 0; i < count; i++)
         answers[side][i] = draw[side](inputs[i].prover, inputs[i].records, inputs[i].size);
 }
 

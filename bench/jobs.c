@@ -51,8 +51,8 @@ static void damage(Chance *chance, Job *job) {
     }
 }
 
-static void make(Chance *chance, bool damaged) {
-    for (int i = 0; i < CHUNK; i++) {
+static void make(Chance *chance, int count, bool damaged) {
+    for (int i = 0; i < count; i++) {
         Job *job = &inputs[i];
         job->request = (uint32_t)between(chance, 1, UINT32_MAX);
         job->prover = some_prover(chance);
@@ -72,9 +72,9 @@ static void make(Chance *chance, bool damaged) {
 
 typedef EndakuroReport Prove(uint32_t, EndakuroProver, uint32_t, uint16_t, const uint8_t *, size_t, uint8_t *, size_t);
 
-static void work(int side) {
+static void work(int side, int count) {
     static Prove *const prove[SIDES] = {endakuro_prove, plain_prove, bare_prove, bitwise_prove};
-    for (int i = 0; i < CHUNK; i++) {
+    for (int i = 0; i < count; i++) {
         const Job *job = &inputs[i];
         Answer *answer = &answers[side][i];
         answer->report = prove[side](job->request, job->prover, job->k, job->limit, job->records, job->size,

@@ -1,4 +1,4 @@
-// A kind of work that is measured: CHUNK inputs are made, each side works through all of them, and the answers
+// A kind of work that is measured: inputs are made, CHUNK at a time, each side works through them, and the answers
 // are compared.
 #pragma once
 #include "chance.h"
@@ -11,10 +11,11 @@ typedef struct {
     const char *name;
     // how many of it a full measurement takes
     long count;
-    // the next CHUNK inputs: good ones, or with faults among them
-    void (*make)(Chance *chance, bool damaged);
-    void (*work)(int side);
-    // how many of a side's answers differ from ours, in any field or byte left behind
+    // the next inputs, up to CHUNK: good ones, or with faults among them
+    void (*make)(Chance *chance, int count, bool damaged);
+    // a side works through the first `count` inputs
+    void (*work)(int side, int count);
+    // how many of a side's CHUNK answers differ from ours, in any field or byte left behind
     long (*differences)(int side);
 } Kind;
 

@@ -14,8 +14,8 @@ static uint64_t of_any_length(Chance *chance) {
     return any(chance) >> between(chance, 0, 63) | 1;
 }
 
-static void make(Chance *chance, bool damaged) {
-    for (int i = 0; i < CHUNK; i++) {
+static void make(Chance *chance, int count, bool damaged) {
+    for (int i = 0; i < count; i++) {
         Ratio *ratio = &inputs[i];
         ratio->a = of_any_length(chance);
         ratio->d = of_any_length(chance);
@@ -26,11 +26,11 @@ static void make(Chance *chance, bool damaged) {
     }
 }
 
-static void work(int side) {
+static void work(int side, int count) {
     typedef EndakuroQuotient Work(uint64_t, uint64_t, uint64_t);
     static Work *const divide[SIDES] = {endakuro_rounded_ratio, plain_rounded_ratio, bare_rounded_ratio,
                                         bitwise_rounded_ratio};
-    for (int i = 0; i < CHUNK; i++) answers[side][i] = divide[side](inputs[i].a, inputs[i].b, inputs[i].d);
+    for (int i = 0; i < count; i++) answers[side][i] = divide[side](inputs[i].a, inputs[i].b, inputs[i].d);
 }
 
 static long differences(int side) {

@@ -18,8 +18,8 @@ static float any_single(Chance *chance) {
     return single;
 }
 
-static void make(Chance *chance, bool damaged) {
-    for (int i = 0; i < CHUNK; i++) {
+static void make(Chance *chance, int count, bool damaged) {
+    for (int i = 0; i < count; i++) {
         Reading *reading = &inputs[i];
         reading->temperature = (float)between(chance, -200000, 2000000) / 10000;
         reading->pressure = (float)between(chance, 0, 15000000) / 10000;
@@ -31,10 +31,10 @@ static void make(Chance *chance, bool damaged) {
     }
 }
 
-static void work(int side) {
+static void work(int side, int count) {
     typedef EndakuroLive Work(float, float);
     static Work *const live[SIDES] = {endakuro_live, plain_live, bare_live, bitwise_live};
-    for (int i = 0; i < CHUNK; i++) answers[side][i] = live[side](inputs[i].temperature, inputs[i].pressure);
+    for (int i = 0; i < count; i++) answers[side][i] = live[side](inputs[i].temperature, inputs[i].pressure);
 }
 
 static bool same(const EndakuroLive *a, const EndakuroLive *b) {

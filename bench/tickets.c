@@ -17,8 +17,8 @@ static void damage(Chance *chance, EndakuroTicket *ticket) {
     }
 }
 
-static void make(Chance *chance, bool damaged) {
-    for (int i = 0; i < CHUNK; i++) {
+static void make(Chance *chance, int count, bool damaged) {
+    for (int i = 0; i < count; i++) {
         EndakuroTicket *ticket = &inputs[i];
         *ticket = (EndakuroTicket){.opening = (uint32_t)between(chance, 0, 90000000),
                                    .mf = (uint16_t)between(chance, 8000, 12000),
@@ -31,10 +31,10 @@ static void make(Chance *chance, bool damaged) {
     }
 }
 
-static void work(int side) {
+static void work(int side, int count) {
     typedef EndakuroVolumes Work(EndakuroTicket);
     static Work *const ticket[SIDES] = {endakuro_ticket, plain_ticket, bare_ticket, bitwise_ticket};
-    for (int i = 0; i < CHUNK; i++) answers[side][i] = ticket[side](inputs[i]);
+    for (int i = 0; i < count; i++) answers[side][i] = ticket[side](inputs[i]);
 }
 
 static bool same(const EndakuroVolumes *a, const EndakuroVolumes *b) {
