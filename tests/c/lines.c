@@ -57,7 +57,7 @@ static void lend(Lent *lent) {
     memset(lent_bytes(lent) + lent->length, GUARDED, GUARD);
 }
 
-static uint8_t metal, places;
+static uint8_t metal;
 static uint16_t coefficient;
 
 static void read_metal(void) {
@@ -111,25 +111,34 @@ static void tell_lent(Lent *lent) {
 
 // ---- entries
 
+// A factor, and what the same call gives for a number of places that is neither 4 nor 6: as for 4.
+static void tell_factor(EndakuroFactor r, EndakuroFactor other, uint8_t places) {
+    require(places == 6 || (other.number == r.number && other.record == r.record && other.value == r.value),
+            "other places are not four");
+    tell(r.number, r.record, VALUES(r.value));
+}
+
+static const uint8_t other_places = 5;
+
 static void cts(void) {
     int16_t t = (int16_t)strtol(next_word(), NULL, 10);
     read_metal();
-    places = (uint8_t)number();
-    EndakuroFactor r = endakuro_cts(t, metal, coefficient, places);
-    tell(r.number, r.record, VALUES(r.value));
+    uint8_t places = (uint8_t)number();
+    tell_factor(endakuro_cts(t, metal, coefficient, places), endakuro_cts(t, metal, coefficient, other_places), places);
 }
 
 static void cps(void) {
     uint16_t p = (uint16_t)number();
     uint32_t diameter = number(), wall = number(), modulus = number();
-    EndakuroFactor r = endakuro_cps(p, diameter, wall, modulus, (uint8_t)number());
-    tell(r.number, r.record, VALUES(r.value));
+    uint8_t places = (uint8_t)number();
+    tell_factor(endakuro_cps(p, diameter, wall, modulus, places), endakuro_cps(p, diameter, wall, modulus, other_places),
+                places);
 }
 
 static void cpl(void) {
     uint16_t p = (uint16_t)number(), f = (uint16_t)number();
-    EndakuroFactor r = endakuro_cpl(p, f, (uint8_t)number());
-    tell(r.number, r.record, VALUES(r.value));
+    uint8_t places = (uint8_t)number();
+    tell_factor(endakuro_cpl(p, f, places), endakuro_cpl(p, f, other_places), places);
 }
 
 static void prove(void) {
