@@ -67,8 +67,8 @@ int main(void) {
 
     EndakuroReport kept = endakuro_read(report, RECORD);
     printf("the report kept is still that of request %u\n", kept.request);
-    EndakuroReport next = endakuro_write(kept.request + 1, kept.runs, kept.first,
-                                         (EndakuroFactors){kept.f1, kept.f2, kept.f3, kept.f4, kept.f5}, report, RECORD);
+    EndakuroFactors factors = {kept.f1, kept.f2, kept.f3, kept.f4, kept.f5};
+    EndakuroReport next = endakuro_write(kept.request + 1, kept.runs, kept.first, factors, report, RECORD);
     printf("a report written from its fields: request %u, factor %u\n", next.request, next.factor);
     return 0;
 }

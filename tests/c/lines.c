@@ -105,7 +105,8 @@ static void tell_bytes(const uint8_t *bytes, size_t length) {
 
 static void tell_lent(Lent *lent) {
     const uint8_t *after = lent_bytes(lent) + lent->length;
-    for (int i = 0; i < GUARD; i++) require(lent->room[i] == GUARDED && after[i] == GUARDED, "written beside the buffer");
+    for (int i = 0; i < GUARD; i++)
+        require(lent->room[i] == GUARDED && after[i] == GUARDED, "written beside the buffer");
     tell_bytes(lent_bytes(lent), lent->length);
 }
 
@@ -131,8 +132,8 @@ static void cps(void) {
     uint16_t p = (uint16_t)number();
     uint32_t diameter = number(), wall = number(), modulus = number();
     uint8_t places = (uint8_t)number();
-    tell_factor(endakuro_cps(p, diameter, wall, modulus, places), endakuro_cps(p, diameter, wall, modulus, other_places),
-                places);
+    tell_factor(endakuro_cps(p, diameter, wall, modulus, places),
+                endakuro_cps(p, diameter, wall, modulus, other_places), places);
 }
 
 static void cpl(void) {
@@ -297,10 +298,12 @@ static void empty(void) {
 static const struct {
     const char *name;
     void (*answer)(void);
-} entries[] = {{"cts", cts},       {"cps", cps},           {"cpl", cpl},   {"prove", prove}, {"runs", runs},
-               {"run", run},       {"draw", draw},         {"fill", fill}, {"passes", passes}, {"ticket", ticket},
-               {"live", live},     {"write", write},       {"read", read}, {"request", request},
-               {"withdraw", withdraw}, {"take", take},     {"book", book}, {"load", load},   {"empty", empty}};
+} entries[] = {
+    {"cts", cts},         {"cps", cps},           {"cpl", cpl},   {"prove", prove},   {"runs", runs},
+    {"run", run},         {"draw", draw},         {"fill", fill}, {"passes", passes}, {"ticket", ticket},
+    {"live", live},       {"write", write},       {"read", read}, {"request", request}, {"withdraw", withdraw},
+    {"take", take},       {"book", book},         {"load", load}, {"empty", empty},
+};
 
 int main(void) {
     kept = endakuro_empty();

@@ -79,9 +79,11 @@ partOf (done at) = record { start = 32 * at; length = 160 }
 partOf (refused number at) = record { start = 0; length = 0 }
 
 -- one run's figures
+abbrev pub noVolume : Corrected
+noVolume = record { cpl = 0; factor = 0; volume = 0 }
+
 abbrev pub noFigures : Figures
-noFigures =
-    record { indicated = 0; cts = 0; cps = 0; prover = record { cpl = 0; factor = 0; volume = 0 }; meter = record { cpl = 0; factor = 0; volume = 0 }; factor = 0 }
+noFigures = record { indicated = 0; cts = 0; cps = 0; prover = noVolume; meter = noVolume; factor = 0 }
 
 abbrev pub runWith : ℕ → ℕ → Figures → EndakuroRun
 runWith number at figures =

@@ -11,3 +11,5 @@ pub mod Jobs
 pub mod Demand3
 pub mod OneOutcome
 pub mod Keeper
+pub mod OneOutcomeC
+pub mod Flattened

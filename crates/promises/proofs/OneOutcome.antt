@@ -23,6 +23,7 @@ use Rattle.exact.proofs.rounded_ratio.Reads as exact-rounded-ratio
 use Rattle.exact.proofs.value_or_zero.Reads as exact-value-or-zero
 use Rattle.factors.proofs.coefficient.Reads as factors-coefficient
 use Rattle.factors.proofs.is_metal.Reads as factors-is-metal
+use Rattle.factors.proofs.choose_metal.Reads as factors-choose-metal
 use Rattle.factors.proofs.is_pipe.Reads as factors-is-pipe
 use Rattle.factors.proofs.cts.Reads as factors-cts
 use Rattle.factors.proofs.cps.Reads as factors-cps
@@ -74,7 +75,7 @@ abbrev pub OneLeft : {K : Type 0} {A R X : K → Type 0} → ((κ : K) → A κ 
 OneLeft {K} {A} {R} {X} post bytes = (κ : K) (a : A κ) (r q : R κ) (x y : X κ) → post κ a r x → post κ a q y → bytes κ x ≡ bytes κ y
 
 -- two that are equal to a third are equal
-same : {A : Type 0} {r q m : A} → r ≡ m → q ≡ m → r ≡ q
+pub same : {A : Type 0} {r q m : A} → r ≡ m → q ≡ m → r ≡ q
 same p p′ = p ∙ sym p′
 
 pub record OneOutcome : Type 0 where
@@ -87,6 +88,7 @@ pub record OneOutcome : Type 0 where
   pub exact-value-or-zero-one : OneAnswer exact-value-or-zero.Post
   pub factors-coefficient-one : OneAnswer factors-coefficient.Post
   pub factors-is-metal-one : OneAnswer factors-is-metal.Post
+  pub factors-choose-metal-one : OneAnswer factors-choose-metal.Post
   pub factors-is-pipe-one : OneAnswer factors-is-pipe.Post
   pub factors-cts-one : OneAnswer factors-cts.Post
   pub factors-cps-one : OneAnswer factors-cps.Post
@@ -143,6 +145,7 @@ one-outcome =
       exact-value-or-zero-one = λ _ _ _ _ _ _. same;
       factors-coefficient-one = λ _ _ _ _ _ _. same;
       factors-is-metal-one = λ _ _ _ _ _ _. same;
+      factors-choose-metal-one = λ _ _ _ _ _ _. same;
       factors-is-pipe-one = λ _ _ _ _ _ _. same;
       factors-cts-one = λ _ _ r q _ _ p p′. factor-one r q (same p p′);
       factors-cps-one = λ _ _ r q _ _ p p′. factor-one r q (same p p′);

@@ -26,7 +26,9 @@ returns c = sym (ap (λ (a : Handout). flatTaken (toldTake a)) (c .before .answe
 
 returns-2 : tie.Need-returns-2
 unfolding flatTaken
-returns-2 c = ap (λ (g : GivenBack). takenWith (g .number) (g .at) noHandout) (c .before .give-back .ensures) ∙ sym (ap (λ (a : Handout). flatTaken (toldTake a)) (c .before .before .before .answer2 .given .1))
+returns-2 c =
+    ap (λ (g : GivenBack). takenWith (g .number) (g .at) noHandout) (c .before .give-back .ensures)
+    ∙ sym (ap (λ (a : Handout). flatTaken (toldTake a)) (c .before .before .before .answer2 .given .1))
 
 pub flatten-take-spec : {M : Type 1} → statement M
 flatten-take-spec =

@@ -18,7 +18,9 @@ flatten-requires : tie.Need-flatten-requires
 flatten-requires c κs = search needs
 
 returns : tie.Need-returns
-returns c = let a = c .before .before .before .args in c .flatten .ensures ∙ ap flatFactor (c .before .cpl .ensures ∙ ap (λ (d : Places). cplOf (digits d) (a .f) (a .p)) (c .before .before .choose-places .ensures))
+returns c =
+    let a = c .before .before .before .args in
+    c .flatten .ensures ∙ ap flatFactor (c .before .cpl .ensures ∙ ap (λ (d : Places). cplOf (digits d) (a .f) (a .p)) (c .before .before .choose-places .ensures))
 
 pub endakuro-cpl-spec : {M : Type 1} → statement M
 endakuro-cpl-spec =

@@ -19,7 +19,9 @@ flatten-requires : tie.Need-flatten-requires
 flatten-requires c κs = search needs
 
 returns : tie.Need-returns
-returns c = let a = c .before .before .before .args in c .flatten .ensures ∙ ap flatFactor (c .before .cps .ensures ∙ ap (λ (d : Places). cpsOf (digits d) (pipeBy (a .diameter) (a .wall) (a .modulus)) (a .p)) (c .before .before .choose-places .ensures))
+returns c =
+    let a = c .before .before .before .args in
+    c .flatten .ensures ∙ ap flatFactor (c .before .cps .ensures ∙ ap (λ (d : Places). cpsOf (digits d) (pipeBy (a .diameter) (a .wall) (a .modulus)) (a .p)) (c .before .before .choose-places .ensures))
 
 pub endakuro-cps-spec : {M : Type 1} → statement M
 endakuro-cps-spec =

@@ -22,7 +22,9 @@ flatten-requires : tie.Need-flatten-requires
 flatten-requires c κs = search needs
 
 returns : tie.Need-returns
-returns c = let s = c .before .before .before .before in c .flatten .ensures ∙ ap flatFactor (c .before .cts .ensures ∙ (λ i. ctsOf (digits (c .before .before .choose-places .ensures i)) (c .before .before .before .choose-metal .ensures i) (toZ-ofZ w16 (s .args .t) (s .fits .t) i)))
+returns c =
+    let s = c .before .before .before .before in
+    c .flatten .ensures ∙ ap flatFactor (c .before .cts .ensures ∙ (λ i. ctsOf (digits (c .before .before .choose-places .ensures i)) (c .before .before .before .choose-metal .ensures i) (toZ-ofZ w16 (s .args .t) (s .fits .t) i)))
 
 pub endakuro-cts-spec : {M : Type 1} → statement M
 endakuro-cts-spec =

@@ -26,7 +26,9 @@ returns c = sym (ap (λ (a : Factor). flatFactor (told a)) (c .before .factor .g
 
 returns-2 : tie.Need-returns-2
 unfolding flatFactor
-returns-2 c = ap (λ (g : GivenBack). factorWith (g .number) (g .at) 0) (c .before .give-back .ensures) ∙ sym (ap (λ (a : Factor). flatFactor (told a)) (c .before .before .before .factor2 .given .1))
+returns-2 c =
+    ap (λ (g : GivenBack). factorWith (g .number) (g .at) 0) (c .before .give-back .ensures)
+    ∙ sym (ap (λ (a : Factor). flatFactor (told a)) (c .before .before .before .factor2 .given .1))
 
 pub flatten-spec : {M : Type 1} → statement M
 flatten-spec =

@@ -23,7 +23,11 @@ same-length : tie.Need-same-length
 same-length c = search needs
 
 returns : tie.Need-returns
-returns c = let w = c .before .before .before in let a = w .before .before .before .before .before .args in let job = ap (λ (p : Prover). jobOf (a .request) p (a .k) (a .limit) (now (a .records)) (length (now (a .buffer)))) (w .before .before .take-up .ensures) in (c .flatten .ensures ∙ ap flatReport (w .prove .ensures .0 ∙ job), w .prove .ensures .1 ∙ (λ i. leftBy (job i) (now (a .buffer))))
+returns c =
+    let w = c .before .before .before in
+    let a = w .before .before .before .before .before .args in
+    let job = ap (λ (p : Prover). jobOf (a .request) p (a .k) (a .limit) (now (a .records)) (length (now (a .buffer)))) (w .before .before .take-up .ensures) in
+    (c .flatten .ensures ∙ ap flatReport (w .prove .ensures .0 ∙ job), w .prove .ensures .1 ∙ (λ i. leftBy (job i) (now (a .buffer))))
 
 pub endakuro-prove-spec : {M : Type 1} → statement M
 endakuro-prove-spec =

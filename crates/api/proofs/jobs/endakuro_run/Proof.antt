@@ -18,7 +18,9 @@ flatten-run-requires : tie.Need-flatten-run-requires
 flatten-run-requires c κs = search needs
 
 returns : tie.Need-returns
-returns c = let a = c .before .before .before .before .args in c .flatten-run .ensures ∙ ap flatRun (c .before .show .ensures ∙ ap (λ (p : Prover). shownOf p (a .k) (now (a .bytes))) (c .before .before .take-up .ensures))
+returns c =
+    let a = c .before .before .before .before .args in
+    c .flatten-run .ensures ∙ ap flatRun (c .before .show .ensures ∙ ap (λ (p : Prover). shownOf p (a .k) (now (a .bytes))) (c .before .before .take-up .ensures))
 
 pub endakuro-run-spec : {M : Type 1} → statement M
 endakuro-run-spec =

@@ -26,7 +26,9 @@ returns c = sym (ap (λ (a : Worked). flatRun (told a)) (c .before .before .befo
 
 returns-2 : tie.Need-returns-2
 unfolding flatRun
-returns-2 c = ap (λ (g : GivenBack). runWith (g .number) (g .at) noFigures) (c .before .give-back .ensures) ∙ sym (ap (λ (a : Worked). flatRun (told a)) (c .before .before .before .worked2 .given .1))
+returns-2 c =
+    ap (λ (g : GivenBack). runWith (g .number) (g .at) noFigures) (c .before .give-back .ensures)
+    ∙ sym (ap (λ (a : Worked). flatRun (told a)) (c .before .before .before .worked2 .given .1))
 
 pub flatten-run-spec : {M : Type 1} → statement M
 flatten-run-spec =

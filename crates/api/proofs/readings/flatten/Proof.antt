@@ -30,11 +30,15 @@ tenths-back c = search needs
 
 returns : tie.Need-returns
 unfolding flatLive told
-returns c = (λ i. record { number = 0; at = 0; tenths = tenths-back c i; psi = c .before .live .given .0 .1 .0 }) ∙ sym (ap (λ (a : Live). flatLive (told a)) (c .before .live .given .1))
+returns c =
+    (λ i. record { number = 0; at = 0; tenths = tenths-back c i; psi = c .before .live .given .0 .1 .0 })
+    ∙ sym (ap (λ (a : Live). flatLive (told a)) (c .before .live .given .1))
 
 returns-2 : tie.Need-returns-2
 unfolding flatLive told
-returns-2 c = ap (λ (g : GivenBack). liveWith (g .number) (g .at) noReading) (c .before .give-back .ensures) ∙ sym (ap (λ (a : Live). flatLive (told a)) (c .before .before .before .live2 .given .1))
+returns-2 c =
+    ap (λ (g : GivenBack). liveWith (g .number) (g .at) noReading) (c .before .give-back .ensures)
+    ∙ sym (ap (λ (a : Live). flatLive (told a)) (c .before .before .before .live2 .given .1))
 
 pub flatten-spec : {M : Type 1} → statement M
 flatten-spec =

@@ -15,7 +15,9 @@ same-length : tie.Need-same-length
 same-length c = search needs
 
 returns : tie.Need-returns
-returns c = let w = c .before .before .before in (c .flatten .ensures ∙ ap flatReport (w .write .ensures .0), w .write .ensures .1)
+returns c =
+    let w = c .before .before .before in
+    (c .flatten .ensures ∙ ap flatReport (w .write .ensures .0), w .write .ensures .1)
 
 pub endakuro-write-spec : {M : Type 1} → statement M
 endakuro-write-spec = tie.close (tie.spec write-requires flatten-requires same-length returns)

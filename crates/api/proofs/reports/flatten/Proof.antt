@@ -26,7 +26,9 @@ returns c = sym (ap (λ (a : Answer). flatReport (told a)) (c .before .before .a
 
 returns-2 : tie.Need-returns-2
 unfolding flatReport
-returns-2 c = ap (λ (g : GivenBack). reportWith (g .number) (g .at) noReport) (c .before .give-back .ensures) ∙ sym (ap (λ (a : Answer). flatReport (told a)) (c .before .before .before .answer2 .given .1))
+returns-2 c =
+    ap (λ (g : GivenBack). reportWith (g .number) (g .at) noReport) (c .before .give-back .ensures)
+    ∙ sym (ap (λ (a : Answer). flatReport (told a)) (c .before .before .before .answer2 .given .1))
 
 pub flatten-spec : {M : Type 1} → statement M
 flatten-spec =

@@ -26,7 +26,9 @@ returns c = sym (ap (λ (a : Outcome). flatVolumes (told a)) (c .before .outcome
 
 returns-2 : tie.Need-returns-2
 unfolding flatVolumes
-returns-2 c = ap (λ (g : GivenBack). volumesWith (g .number) (g .at) noVolumes) (c .before .give-back .ensures) ∙ sym (ap (λ (a : Outcome). flatVolumes (told a)) (c .before .before .before .outcome2 .given .1))
+returns-2 c =
+    ap (λ (g : GivenBack). volumesWith (g .number) (g .at) noVolumes) (c .before .give-back .ensures)
+    ∙ sym (ap (λ (a : Outcome). flatVolumes (told a)) (c .before .before .before .outcome2 .given .1))
 
 pub flatten-spec : {M : Type 1} → statement M
 flatten-spec =

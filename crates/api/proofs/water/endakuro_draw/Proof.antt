@@ -18,7 +18,9 @@ flatten-draw-requires : tie.Need-flatten-draw-requires
 flatten-draw-requires c κs = search needs
 
 returns : tie.Need-returns
-returns c = let a = c .before .before .before .before .args in c .flatten-draw .ensures ∙ ap flatDraw (c .before .draw .ensures ∙ ap (λ (p : Prover). drawOf p (now (a .records))) (c .before .before .take-up .ensures))
+returns c =
+    let a = c .before .before .before .before .args in
+    c .flatten-draw .ensures ∙ ap flatDraw (c .before .draw .ensures ∙ ap (λ (p : Prover). drawOf p (now (a .records))) (c .before .before .take-up .ensures))
 
 pub endakuro-draw-spec : {M : Type 1} → statement M
 endakuro-draw-spec =

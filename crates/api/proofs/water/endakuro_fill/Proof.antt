@@ -18,7 +18,9 @@ flatten-fill-requires : tie.Need-flatten-fill-requires
 flatten-fill-requires c κs = search needs
 
 returns : tie.Need-returns
-returns c = let a = c .before .before .before .before .args in c .flatten-fill .ensures ∙ ap flatFill (c .before .fill .ensures ∙ ap (λ (m : Metal). fillOf m (now (a .bytes))) (c .before .before .choose-metal .ensures))
+returns c =
+    let a = c .before .before .before .before .args in
+    c .flatten-fill .ensures ∙ ap flatFill (c .before .fill .ensures ∙ ap (λ (m : Metal). fillOf m (now (a .bytes))) (c .before .before .choose-metal .ensures))
 
 pub endakuro-fill-spec : {M : Type 1} → statement M
 endakuro-fill-spec =

@@ -26,7 +26,9 @@ returns c = sym (ap (λ (a : WaterDraw). flatDraw (toldDraw a)) (c .before .answ
 
 returns-2 : tie.Need-returns-2
 unfolding flatDraw
-returns-2 c = ap (λ (g : GivenBack). drawWith (g .number) (g .at) noBase) (c .before .give-back .ensures) ∙ sym (ap (λ (a : WaterDraw). flatDraw (toldDraw a)) (c .before .before .before .answer2 .given .1))
+returns-2 c =
+    ap (λ (g : GivenBack). drawWith (g .number) (g .at) noBase) (c .before .give-back .ensures)
+    ∙ sym (ap (λ (a : WaterDraw). flatDraw (toldDraw a)) (c .before .before .before .answer2 .given .1))
 
 pub flatten-draw-spec : {M : Type 1} → statement M
 flatten-draw-spec =

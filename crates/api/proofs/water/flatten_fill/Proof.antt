@@ -26,7 +26,9 @@ returns c = sym (ap (λ (a : FillAnswer). flatFill (toldFill a)) (c .before .ans
 
 returns-2 : tie.Need-returns-2
 unfolding flatFill
-returns-2 c = ap (λ (g : GivenBack). fillWith (g .number) (g .at) noFill) (c .before .give-back .ensures) ∙ sym (ap (λ (a : FillAnswer). flatFill (toldFill a)) (c .before .before .before .answer2 .given .1))
+returns-2 c =
+    ap (λ (g : GivenBack). fillWith (g .number) (g .at) noFill) (c .before .give-back .ensures)
+    ∙ sym (ap (λ (a : FillAnswer). flatFill (toldFill a)) (c .before .before .before .answer2 .given .1))
 
 pub flatten-fill-spec : {M : Type 1} → statement M
 flatten-fill-spec =

@@ -26,7 +26,9 @@ returns c = sym (ap (λ (a : Counted). flatPasses (toldPasses a) (c .before .bef
 
 returns-2 : tie.Need-returns-2
 unfolding flatPasses
-returns-2 c = let s = c .before .before .before .before .before in ap (λ (g : GivenBack). passesWith (g .number) (g .at) 0 (s .args .volumes)) (c .before .give-back .ensures) ∙ sym (ap (λ (a : Counted). flatPasses (toldPasses a) (s .args .volumes)) (c .before .before .before .answer2 .given .1))
+returns-2 c =
+    let s = c .before .before .before .before .before in
+    ap (λ (g : GivenBack). passesWith (g .number) (g .at) 0 (s .args .volumes)) (c .before .give-back .ensures) ∙ sym (ap (λ (a : Counted). flatPasses (toldPasses a) (s .args .volumes)) (c .before .before .before .answer2 .given .1))
 
 pub flatten-passes-spec : {M : Type 1} → statement M
 flatten-passes-spec =
