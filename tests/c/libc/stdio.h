@@ -7,7 +7,6 @@ extern FILE *stdin, *stdout, *stderr;
 
 int printf(const char *, ...) __attribute__((format(printf, 1, 2)));
 int fprintf(FILE *, const char *, ...) __attribute__((format(printf, 2, 3)));
-int puts(const char *);
 int putchar(int);
 char *fgets(char *, int, FILE *);
 int fflush(FILE *);

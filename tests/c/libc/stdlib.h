@@ -3,4 +3,3 @@
 
 unsigned long strtoul(const char *, char **, int);
 long strtol(const char *, char **, int);
-_Noreturn void exit(int);

@@ -5,7 +5,6 @@ struct timespec {
     long tv_nsec;
 };
 
-#define CLOCK_MONOTONIC 1
 #define CLOCK_PROCESS_CPUTIME_ID 2
 
 int clock_gettime(int, struct timespec *);
