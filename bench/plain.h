@@ -1,0 +1,22 @@
+// The same jobs in plain C, as a programmer writes them from the paper, three times from one text (plain/):
+//   plain_    with all of the paper's checks
+//   bare_     with none, for input that is known to be good
+//   bitwise_  with all checks, and quotients a bit at a time, as the proved library's lowest layer divides
+// No line is shared with the proved code.
+#pragma once
+#include <endakuro.h>
+
+#define DECLARE(side)                                                                                                  \
+    EndakuroReport side##_prove(uint32_t request, EndakuroProver prover, uint32_t k, uint16_t limit,                   \
+                                const uint8_t *records, size_t size, uint8_t *buffer, size_t room);                    \
+    EndakuroDraw side##_draw(EndakuroProver prover, const uint8_t *records, size_t size);                              \
+    EndakuroVolumes side##_ticket(EndakuroTicket ticket);                                                              \
+    EndakuroLive side##_live(float temperature, float pressure);                                                       \
+    EndakuroDone side##_request(EndakuroBook *book, uint8_t shipper, uint32_t number);                                 \
+    EndakuroDone side##_withdraw(EndakuroBook *book, uint8_t shipper, uint32_t number);                                \
+    EndakuroTaken side##_take(EndakuroBook *book);                                                                     \
+    EndakuroQuotient side##_rounded_ratio(uint64_t a, uint64_t b, uint64_t d)
+
+DECLARE(plain);
+DECLARE(bare);
+DECLARE(bitwise);

@@ -1,0 +1,439 @@
+/* Endakuro for C: proved arithmetic for meter proving.
+ *
+ * The functions below are proved to do what they say here for every input, so a caller checks nothing first.
+ * Build the archive with `rt staticlib api`, link target/staticlib/libapi.a (x86-64), and include this file
+ * from C11 or C++17. Nothing here allocates, keeps anything between calls or prints.
+ *
+ * ANSWERS. Every answer starts with `number` and `record`.
+ *   Done:    number 0 and record 0, and the values.
+ *   Refused: number from the table below; record is the lent record at fault, from 1, where the table has
+ *            a star, and 0 elsewhere; every value is 0. Nothing is written into a lent buffer, and a book is
+ *            left as it was.
+ *
+ *    1   lent records not whole, or too few or many      14  report buffer not 32 bytes
+ *    2 * a byte that has no name is not zero             15  not a report
+ *    3   prover setting out of range                     20  book not sound
+ *    4   K factor or limit out of range                  21  unknown shipper
+ *    5 * record field out of range                       22  number zero
+ *    6 * pass number or its pressure breaks the rule     23  already waiting
+ *    7 * indicated volume out of range after rounding    24  ceiling reached: 8 waiting
+ *    8 * run factor out of range                         25  has 2 or more, and the 8 shared places are used up
+ *    9   no qualifying group                             26  withdrawn number not waiting
+ *   10   ticket field out of range                       27  nothing to take
+ *   11   closing below opening
+ *   12   reading not finite
+ *   13   reading out of range
+ *
+ * UNITS AND RANGES, whole numbers all of them. Outside its range a number is refused, never bent.
+ *
+ *   temperature of prover and meter    0.1 °F                     -200 to 2000
+ *   .. in a water draw                 0.1 °F                     prover 350 to 1050, measure 321 to 1050
+ *   pressure P                         psi gage                   0 to 1500
+ *   cubical coefficient                10^-7 per °F               100 to 400
+ *   modulus E                          psi                        10,000,000 to 40,000,000
+ *   inside diameter, wall              0.001 inch                 1000 to 60000, 100 to 3000
+ *   compressibility F                  10^-8 per psi              0 to 10000
+ *   CTL                                0.0001                     5000 to 15000
+ *   run factor, meter factor           0.0001                     8000 to 12000
+ *   CTDW                               0.000001                   980000 to 1020000
+ *   base and indicated volume          0.0001 barrel              1 to 100,000,000
+ *   pulses                             one                        1 to 100,000,000
+ *   K factor                           0.001 pulse per barrel     1 to 1,000,000,000
+ *   repeatability limit                1 in 10,000                1 to 100 (the house's is 5)
+ *   meter reading                      0.01 barrel                0 to 99,999,999
+ *   sediment and water S               0.001 %                    0 to 100000
+ *   runs in a job, passes and fills    one                        5 to 20, 3 to 20 and 3 to 60
+ *
+ * Every result is rounded once, to the unit that is named with it, halves upward.
+ *
+ * BYTES are lent as a pointer and a length. The pointer is never NULL, also where the length is 0. Lent
+ * records and a lent buffer do not overlap.
+ *
+ * RECORDS have 32 bytes each, little-endian; bytes without a name are zero.
+ *   Run:    0 pulses (4), 4 prover T (signed 2), 6 meter T (signed 2), 8 prover P, 10 meter P, 12 prover CTL,
+ *           14 meter CTL, 16 prover F, 18 meter F (2 each)
+ *   Fill:   0 certified volume (4; 20,000 to 100,000,000 in 0.01 cubic inch), 4 scale reading (signed 2;
+ *           -10000 to 10000 in 0.01 cubic inch), 6 prover T, 8 measure T (signed 2), 10 measure's
+ *           coefficient (2), 12 CTDW (4), 16 pass (1), 18 pressure (2). Passes start at 1 and never go back
+ *           or skip; all fills of a pass carry one pressure
+ *   Report: 0 request number (4), 4 job factor (2), 6 first run used (1), 7 runs in job (1), 8 the five
+ *           factors (2 each)
+ */
+#ifndef ENDAKURO_H
+#define ENDAKURO_H
+
+#include <stdbool.h>
+#include <stddef.h>
+#include <stdint.h>
+
+#ifdef __cplusplus
+extern "C" {
+#define ENDAKURO_ASSERT static_assert
+#else
+#define ENDAKURO_ASSERT _Static_assert
+#endif
+
+/* ---- Correction factors ----
+ *
+ * places is 4 (proving, tickets) or 6 (water draw); any other number counts as 4. A factor is in 10^-places:
+ * 10003 at 4 places is 1.0003. */
+
+/* A metal goes in as two numbers: its name, and a certified cubical coefficient or 0. A certificate wins over
+ * the name. Refused 3: a coefficient out of range, ENDAKURO_NO_NAME without one, any name above that. */
+enum {
+    ENDAKURO_MILD_CARBON = 0,
+    ENDAKURO_STAINLESS_304 = 1,
+    ENDAKURO_STAINLESS_316 = 2,
+    ENDAKURO_17_4_PH = 3,
+    ENDAKURO_NO_NAME = 4
+};
+
+typedef struct EndakuroFactor {
+    uint16_t number;
+    uint16_t record;
+    uint32_t value;
+} EndakuroFactor;
+
+/* CTS, the effect of temperature on steel. Refuses 3 for the metal, then 5 for t; record is 0. */
+EndakuroFactor endakuro_cts(int16_t t, uint8_t metal, uint16_t coefficient, uint8_t places);
+
+/* CPS, the effect of pressure on steel. Refuses 3 for the pipe, then 5 for p; record is 0. */
+EndakuroFactor endakuro_cps(uint16_t p, uint32_t diameter, uint32_t wall, uint32_t modulus, uint8_t places);
+
+/* CPL, the effect of pressure on the liquid. Refuses 5; record is 0. */
+EndakuroFactor endakuro_cpl(uint16_t p, uint16_t f, uint8_t places);
+
+/* ---- Proving, by pipe prover ---- */
+
+/* The prover's settings. A water draw does not judge `base`: it is what gives one. */
+typedef struct EndakuroProver {
+    uint32_t base;        /* base volume, 0.0001 barrel */
+    uint32_t diameter;    /* inside diameter, 0.001 inch */
+    uint32_t wall;        /* 0.001 inch */
+    uint32_t modulus;     /* psi */
+    uint16_t coefficient; /* certified, 10^-7 per °F; 0: none */
+    uint8_t metal;        /* ENDAKURO_MILD_CARBON .. */
+} EndakuroProver;
+
+typedef struct EndakuroReport {
+    uint16_t number;
+    uint16_t record;
+    uint32_t request; /* request number */
+    uint16_t factor;  /* the job's factor, 0.0001: the five's mean */
+    uint8_t first;    /* first run used, from 1 */
+    uint8_t runs;     /* runs in the job */
+    uint16_t f1;      /* the five run factors used, 0.0001 */
+    uint16_t f2;
+    uint16_t f3;
+    uint16_t f4;
+    uint16_t f5;
+} EndakuroReport;
+
+/* A job: 5 to 20 run records. The first five consecutive runs that repeat within `limit` decide, and their
+ * report is written into `buffer`, which has 32 bytes. Refuses 14, 22 (request 0), 1, 3, 4; then, records
+ * first to last, 5 and 2; then, run by run, 7 and 8; then 9. A refusal leaves every byte of `buffer`. */
+EndakuroReport endakuro_prove(uint32_t request, EndakuroProver prover, uint32_t k, uint16_t limit,
+                              const uint8_t *records, size_t records_length, uint8_t *buffer, size_t buffer_length);
+
+/* A part of the lent records, in bytes; 0 and 0 where there is none. It has no number. */
+typedef struct EndakuroPart {
+    size_t start;
+    size_t length;
+} EndakuroPart;
+
+/* The five accepted run records of the same job, as the 160 bytes from `start`; none where it is refused. */
+EndakuroPart endakuro_accept(EndakuroProver prover, uint32_t k, uint16_t limit, const uint8_t *records,
+                             size_t records_length);
+
+/* One run's figures: factors in 0.0001, volumes in 0.0001 barrel. */
+typedef struct EndakuroRun {
+    uint16_t number;
+    uint16_t record;
+    uint64_t indicated;     /* indicated volume */
+    uint64_t cts;           /* of the prover */
+    uint64_t cps;           /* of the prover */
+    uint64_t prover_cpl;    /* of the liquid at the prover */
+    uint64_t prover_factor; /* CTS, CPS, CTL and CPL at the prover */
+    uint64_t meter_cpl;     /* of the liquid at the meter */
+    uint64_t meter_product; /* CTL and CPL at the meter */
+    uint64_t prover_volume; /* corrected */
+    uint64_t meter_volume;  /* corrected */
+    uint64_t factor;        /* the run factor */
+} EndakuroRun;
+
+/* One run by itself, from its 32 bytes. Refuses 1 (not 32 bytes), 3, 4 (K), then 5, 2, 7, 8 with record 1. */
+EndakuroRun endakuro_run(EndakuroProver prover, uint32_t k, const uint8_t *bytes, size_t bytes_length);
+
+/* ---- The report record ---- */
+
+/* Five consecutive run factors, 0.0001. */
+typedef struct EndakuroFactors {
+    uint16_t f1;
+    uint16_t f2;
+    uint16_t f3;
+    uint16_t f4;
+    uint16_t f5;
+} EndakuroFactors;
+
+/* Writes a report into the 32 bytes of `buffer`; its factor is the five's mean. `first` is 1 to runs - 4.
+ * Refuses 14, 22 (request 0), 15; a refusal leaves every byte. */
+EndakuroReport endakuro_write(uint32_t request, uint8_t runs, uint8_t first, EndakuroFactors factors, uint8_t *buffer,
+                              size_t buffer_length);
+
+/* Reads a report back. Refuses 14, 15. What was written is read as the same fields. */
+EndakuroReport endakuro_read(const uint8_t *bytes, size_t bytes_length);
+
+/* ---- Water draw: volumes in 0.01 cubic inch, factors at 6 places ---- */
+
+typedef struct EndakuroDraw {
+    uint16_t number;
+    uint16_t record;
+    uint64_t base;    /* base volume */
+    uint64_t barrels; /* the same in 0.0001 barrel */
+    uint8_t first;    /* first pass used, from 1 */
+} EndakuroDraw;
+
+/* A draw: 3 to 60 fill records in 3 to 20 passes. The first three consecutive passes that repeat within 2 in
+ * 10,000 decide. Refuses 1, 3; then, records first to last, 5, 2 and 6; then 1 for the passes, and 9. */
+EndakuroDraw endakuro_draw(EndakuroProver prover, const uint8_t *records, size_t records_length);
+
+typedef struct EndakuroPasses {
+    uint16_t number;
+    uint16_t record;
+    uint8_t count;        /* passes */
+    uint64_t volumes[20]; /* of each pass, in order; zeros after the last */
+} EndakuroPasses;
+
+/* The volumes of all passes of a draw, of which three need not repeat. Refuses as a draw, but for 9. */
+EndakuroPasses endakuro_passes(EndakuroProver prover, const uint8_t *records, size_t records_length);
+
+/* One fill's figures. */
+typedef struct EndakuroFill {
+    uint16_t number;
+    uint16_t record;
+    uint64_t adjusted; /* certified volume and scale reading */
+    uint64_t measure;  /* CTS of the measure */
+    uint64_t prover;   /* CTS of the prover */
+    uint64_t ccts;
+    uint64_t drawn;
+} EndakuroFill;
+
+/* One fill by itself, from its 32 bytes; the pass rule is not judged. Refuses 1 (not 32 bytes), 3 for the
+ * metal, then 5 and 2 with record 1. */
+EndakuroFill endakuro_fill(uint8_t metal, uint16_t coefficient, const uint8_t *bytes, size_t bytes_length);
+
+/* ---- Measurement ticket ---- */
+
+typedef struct EndakuroTicket {
+    uint32_t opening;         /* meter readings, 0.01 barrel */
+    uint32_t closing;
+    uint16_t mf;              /* meter factor, 0.0001 */
+    uint16_t ctl;             /* 0.0001 */
+    uint16_t pressure;        /* psi gage */
+    uint16_t compressibility; /* F, 10^-8 per psi */
+    uint32_t sediment;        /* sediment and water S, 0.001 % */
+} EndakuroTicket;
+
+typedef struct EndakuroVolumes {
+    uint16_t number;
+    uint16_t record;
+    uint32_t factor; /* meter factor × CTL × CPL, 0.0001 */
+    uint32_t gross;  /* gross standard volume, 0.01 barrel */
+    uint32_t net;    /* net volume, 0.01 barrel */
+} EndakuroVolumes;
+
+/* Refuses 10 for any field out of range, then 11. Equal readings are a ticket of nothing. */
+EndakuroVolumes endakuro_ticket(EndakuroTicket ticket);
+
+/* ---- Live readings ---- */
+
+typedef struct EndakuroLive {
+    uint16_t number;
+    uint16_t record;
+    int16_t tenths; /* 0.1 °F */
+    uint16_t psi;   /* psi gage */
+} EndakuroLive;
+
+/* Singles in °F and psi gage to whole tenths and psi, halves away from zero; any single may come. Refuses 12,
+ * 13 for the temperature, then 12, 13 for the pressure; the range is judged on the whole number. */
+EndakuroLive endakuro_live(float temperature, float pressure);
+
+/* ---- The book of waiting requests ----
+ *
+ * Four shippers, 0 to 3, share one prover. Each has 2 places of its own; 8 more are shared; nobody has more
+ * than 8 waiting. A take goes round the shippers, from the one after the last served.
+ *
+ * The controller keeps the book and lends it to each call, which changes it in place. Start from
+ * endakuro_empty. A book may come from anywhere, a file or another port: one that is not sound is refused 20
+ * by every call, and left as it is. One call at a time: a book has no lock. */
+
+/* The requests of one shipper that wait, oldest first; unused places are 0. */
+typedef struct EndakuroLine {
+    uint32_t numbers[16];
+    size_t count;
+} EndakuroLine;
+
+typedef struct EndakuroBook {
+    EndakuroLine lines[4]; /* of shippers 0 to 3 */
+    uint8_t last;          /* the shipper served last; 3 in a new book */
+} EndakuroBook;
+
+typedef struct EndakuroDone {
+    uint16_t number;
+    uint16_t record; /* always 0 */
+} EndakuroDone;
+
+typedef struct EndakuroTaken {
+    uint16_t number;
+    uint16_t record;  /* always 0 */
+    uint32_t request; /* the request handed out */
+    uint8_t shipper;  /* whose it is */
+} EndakuroTaken;
+
+/* A new book: nothing waits, and shipper 0 has the first turn. */
+EndakuroBook endakuro_empty(void);
+
+/* Whether counts, shared places, waiting numbers, unused places and `last` are as they must be. */
+bool endakuro_is_sound(const EndakuroBook *book);
+
+/* A shipper asks that a request waits. Refuses 20, 21, 22, 23, 24, 25. */
+EndakuroDone endakuro_request(EndakuroBook *book, uint8_t shipper, uint32_t request);
+
+/* A shipper takes a request back; the rest of its line keeps its order. Refuses 20, 21, 22, 26. */
+EndakuroDone endakuro_withdraw(EndakuroBook *book, uint8_t shipper, uint32_t request);
+
+/* The prover is free: the next request is handed out. Refuses 20, 27. */
+EndakuroTaken endakuro_take(EndakuroBook *book);
+
+/* ---- The rounded quotient that every figure is made by ---- */
+
+enum { ENDAKURO_VALUE = 0, ENDAKURO_ZERO_DIVISOR = 1, ENDAKURO_TOO_LARGE = 2 };
+
+/* It refuses nothing of the table, so it has a kind and no number; value is 0 unless kind is ENDAKURO_VALUE. */
+typedef struct EndakuroQuotient {
+    uint64_t value;
+    uint8_t kind;
+} EndakuroQuotient;
+
+/* a × b ÷ d to the nearest whole number, halves up; the product is exact, whatever its size. */
+EndakuroQuotient endakuro_rounded_ratio(uint64_t a, uint64_t b, uint64_t d);
+
+/* ---- Layout ----
+ *
+ * The archive and this file must agree byte by byte. What the compiler makes of the structs is judged here, so
+ * that a packing pragma or another data model ends in an error and not in wrong figures. */
+#define ENDAKURO_AT(type, field, offset) ENDAKURO_ASSERT(offsetof(type, field) == (offset), #type " " #field)
+#define ENDAKURO_SIZE(type, size) ENDAKURO_ASSERT(sizeof(type) == (size), #type)
+
+ENDAKURO_SIZE(float, 4);
+ENDAKURO_SIZE(size_t, 8);
+ENDAKURO_SIZE(bool, 1);
+
+ENDAKURO_AT(EndakuroFactor, record, 2);
+ENDAKURO_AT(EndakuroFactor, value, 4);
+ENDAKURO_SIZE(EndakuroFactor, 8);
+
+ENDAKURO_AT(EndakuroProver, diameter, 4);
+ENDAKURO_AT(EndakuroProver, wall, 8);
+ENDAKURO_AT(EndakuroProver, modulus, 12);
+ENDAKURO_AT(EndakuroProver, coefficient, 16);
+ENDAKURO_AT(EndakuroProver, metal, 18);
+ENDAKURO_SIZE(EndakuroProver, 20);
+
+ENDAKURO_AT(EndakuroReport, record, 2);
+ENDAKURO_AT(EndakuroReport, request, 4);
+ENDAKURO_AT(EndakuroReport, factor, 8);
+ENDAKURO_AT(EndakuroReport, first, 10);
+ENDAKURO_AT(EndakuroReport, runs, 11);
+ENDAKURO_AT(EndakuroReport, f1, 12);
+ENDAKURO_AT(EndakuroReport, f2, 14);
+ENDAKURO_AT(EndakuroReport, f3, 16);
+ENDAKURO_AT(EndakuroReport, f4, 18);
+ENDAKURO_AT(EndakuroReport, f5, 20);
+ENDAKURO_SIZE(EndakuroReport, 24);
+
+ENDAKURO_AT(EndakuroPart, length, 8);
+ENDAKURO_SIZE(EndakuroPart, 16);
+
+ENDAKURO_AT(EndakuroRun, record, 2);
+ENDAKURO_AT(EndakuroRun, indicated, 8);
+ENDAKURO_AT(EndakuroRun, cts, 16);
+ENDAKURO_AT(EndakuroRun, cps, 24);
+ENDAKURO_AT(EndakuroRun, prover_cpl, 32);
+ENDAKURO_AT(EndakuroRun, prover_factor, 40);
+ENDAKURO_AT(EndakuroRun, meter_cpl, 48);
+ENDAKURO_AT(EndakuroRun, meter_product, 56);
+ENDAKURO_AT(EndakuroRun, prover_volume, 64);
+ENDAKURO_AT(EndakuroRun, meter_volume, 72);
+ENDAKURO_AT(EndakuroRun, factor, 80);
+ENDAKURO_SIZE(EndakuroRun, 88);
+
+ENDAKURO_AT(EndakuroFactors, f2, 2);
+ENDAKURO_AT(EndakuroFactors, f3, 4);
+ENDAKURO_AT(EndakuroFactors, f4, 6);
+ENDAKURO_AT(EndakuroFactors, f5, 8);
+ENDAKURO_SIZE(EndakuroFactors, 10);
+
+ENDAKURO_AT(EndakuroDraw, record, 2);
+ENDAKURO_AT(EndakuroDraw, base, 8);
+ENDAKURO_AT(EndakuroDraw, barrels, 16);
+ENDAKURO_AT(EndakuroDraw, first, 24);
+ENDAKURO_SIZE(EndakuroDraw, 32);
+
+ENDAKURO_AT(EndakuroPasses, record, 2);
+ENDAKURO_AT(EndakuroPasses, count, 4);
+ENDAKURO_AT(EndakuroPasses, volumes, 8);
+ENDAKURO_SIZE(EndakuroPasses, 168);
+
+ENDAKURO_AT(EndakuroFill, record, 2);
+ENDAKURO_AT(EndakuroFill, adjusted, 8);
+ENDAKURO_AT(EndakuroFill, measure, 16);
+ENDAKURO_AT(EndakuroFill, prover, 24);
+ENDAKURO_AT(EndakuroFill, ccts, 32);
+ENDAKURO_AT(EndakuroFill, drawn, 40);
+ENDAKURO_SIZE(EndakuroFill, 48);
+
+ENDAKURO_AT(EndakuroTicket, closing, 4);
+ENDAKURO_AT(EndakuroTicket, mf, 8);
+ENDAKURO_AT(EndakuroTicket, ctl, 10);
+ENDAKURO_AT(EndakuroTicket, pressure, 12);
+ENDAKURO_AT(EndakuroTicket, compressibility, 14);
+ENDAKURO_AT(EndakuroTicket, sediment, 16);
+ENDAKURO_SIZE(EndakuroTicket, 20);
+
+ENDAKURO_AT(EndakuroVolumes, record, 2);
+ENDAKURO_AT(EndakuroVolumes, factor, 4);
+ENDAKURO_AT(EndakuroVolumes, gross, 8);
+ENDAKURO_AT(EndakuroVolumes, net, 12);
+ENDAKURO_SIZE(EndakuroVolumes, 16);
+
+ENDAKURO_AT(EndakuroLive, record, 2);
+ENDAKURO_AT(EndakuroLive, tenths, 4);
+ENDAKURO_AT(EndakuroLive, psi, 6);
+ENDAKURO_SIZE(EndakuroLive, 8);
+
+ENDAKURO_AT(EndakuroLine, count, 64);
+ENDAKURO_SIZE(EndakuroLine, 72);
+ENDAKURO_AT(EndakuroBook, last, 288);
+ENDAKURO_SIZE(EndakuroBook, 296);
+
+ENDAKURO_AT(EndakuroDone, record, 2);
+ENDAKURO_SIZE(EndakuroDone, 4);
+ENDAKURO_AT(EndakuroTaken, record, 2);
+ENDAKURO_AT(EndakuroTaken, request, 4);
+ENDAKURO_AT(EndakuroTaken, shipper, 8);
+ENDAKURO_SIZE(EndakuroTaken, 12);
+
+ENDAKURO_AT(EndakuroQuotient, kind, 8);
+ENDAKURO_SIZE(EndakuroQuotient, 16);
+
+#undef ENDAKURO_AT
+#undef ENDAKURO_SIZE
+
+#ifdef __cplusplus
+}
+#endif
+
+#undef ENDAKURO_ASSERT
+
+#endif

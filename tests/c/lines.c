@@ -1,0 +1,325 @@
+// The line program's entries through the C header: reads its lines and answers in its words, so that both can
+// be given the same lines. Only lines that are well formed come here; the grammar is the line program's own.
+#include <endakuro.h>
+#include <stdio.h>
+#include <stdlib.h>
+#include <string.h>
+
+enum { LONGEST = 524288, GUARD = 64, GUARDED = 0x5a };
+
+static char line[LONGEST + 2];
+static char *rest;
+
+// Lent bytes between guards, so that a byte written beside them is seen.
+typedef struct {
+    uint8_t room[GUARD + LONGEST / 2 + GUARD];
+    size_t length;
+} Lent;
+
+static Lent records, buffer;
+static EndakuroBook kept;
+
+// ---- operands
+
+static char *next_word(void) {
+    char *word = rest;
+    char *space = strchr(word, ' ');
+    if (space) *space = 0;
+    rest = space ? space + 1 : word + strlen(word);
+    return word;
+}
+
+static uint32_t number(void) {
+    return (uint32_t)strtoul(next_word(), NULL, 10);
+}
+
+static float single(void) {
+    uint32_t bits = (uint32_t)strtoul(next_word(), NULL, 16);
+    float value;
+    memcpy(&value, &bits, sizeof value);
+    return value;
+}
+
+static int digit(char c) {
+    return c <= '9' ? c - '0' : c - 'a' + 10;
+}
+
+static uint8_t *lent_bytes(Lent *lent) {
+    return lent->room + GUARD;
+}
+
+static void lend(Lent *lent) {
+    const char *word = next_word();
+    lent->length = word[0] == '-' ? 0 : strlen(word) / 2;
+    memset(lent->room, GUARDED, GUARD);
+    for (size_t i = 0; i < lent->length; i++)
+        lent_bytes(lent)[i] = (uint8_t)(16 * digit(word[2 * i]) + digit(word[2 * i + 1]));
+    memset(lent_bytes(lent) + lent->length, GUARDED, GUARD);
+}
+
+static uint8_t metal;
+static uint16_t coefficient;
+
+static void read_metal(void) {
+    metal = (uint8_t)number();
+    coefficient = (uint16_t)number();
+}
+
+static EndakuroProver settings(void) {
+    EndakuroProver prover;
+    read_metal();
+    prover.metal = metal;
+    prover.coefficient = coefficient;
+    prover.diameter = number();
+    prover.wall = number();
+    prover.modulus = number();
+    prover.base = number();
+    return prover;
+}
+
+// ---- answers
+
+// What the header rules out is printed, so that no such answer is the line program's.
+static void require(int holds, const char *otherwise) {
+    if (!holds) printf("(%s) ", otherwise);
+}
+
+#define VALUES(...) (const int64_t[]){__VA_ARGS__}, (int)(sizeof((int64_t[]){__VA_ARGS__}) / sizeof(int64_t))
+
+// Done with its values, or refused, and then with none.
+static void tell(uint16_t refusal, uint16_t record, const int64_t *values, int count) {
+    if (refusal == 0) {
+        require(record == 0, "done, with a record");
+        printf("ok");
+        for (int i = 0; i < count; i++) printf(" %lld", (long long)values[i]);
+        return;
+    }
+    for (int i = 0; i < count; i++) require(values[i] == 0, "refused, with a value");
+    printf("refused %u %u", refusal, record);
+}
+
+static void tell_bytes(const uint8_t *bytes, size_t length) {
+    printf(length ? " " : " -");
+    for (size_t i = 0; i < length; i++) printf("%02x", bytes[i]);
+}
+
+static void tell_lent(Lent *lent) {
+    const uint8_t *after = lent_bytes(lent) + lent->length;
+    for (int i = 0; i < GUARD; i++)
+        require(lent->room[i] == GUARDED && after[i] == GUARDED, "written beside the buffer");
+    tell_bytes(lent_bytes(lent), lent->length);
+}
+
+// ---- entries
+
+// A factor, and what the same call gives for a number of places that is neither 4 nor 6: as for 4.
+static void tell_factor(EndakuroFactor r, EndakuroFactor other, uint8_t places) {
+    require(places == 6 || (other.number == r.number && other.record == r.record && other.value == r.value),
+            "other places are not four");
+    tell(r.number, r.record, VALUES(r.value));
+}
+
+static const uint8_t other_places = 5;
+
+static void cts(void) {
+    int16_t t = (int16_t)strtol(next_word(), NULL, 10);
+    read_metal();
+    uint8_t places = (uint8_t)number();
+    tell_factor(endakuro_cts(t, metal, coefficient, places), endakuro_cts(t, metal, coefficient, other_places), places);
+}
+
+static void cps(void) {
+    uint16_t p = (uint16_t)number();
+    uint32_t diameter = number(), wall = number(), modulus = number();
+    uint8_t places = (uint8_t)number();
+    tell_factor(endakuro_cps(p, diameter, wall, modulus, places),
+                endakuro_cps(p, diameter, wall, modulus, other_places), places);
+}
+
+static void cpl(void) {
+    uint16_t p = (uint16_t)number(), f = (uint16_t)number();
+    uint8_t places = (uint8_t)number();
+    tell_factor(endakuro_cpl(p, f, places), endakuro_cpl(p, f, other_places), places);
+}
+
+static void prove(void) {
+    uint32_t request = number();
+    EndakuroProver prover = settings();
+    uint32_t k = number();
+    uint16_t limit = (uint16_t)number();
+    lend(&buffer);
+    lend(&records);
+    EndakuroReport r = endakuro_prove(request, prover, k, limit, lent_bytes(&records), records.length,
+                                      lent_bytes(&buffer), buffer.length);
+    require(r.request == (r.number ? 0 : request), "another request number");
+    tell(r.number, r.record, VALUES(r.factor, r.first, r.runs, r.f1, r.f2, r.f3, r.f4, r.f5));
+    tell_lent(&buffer);
+}
+
+static void runs(void) {
+    EndakuroProver prover = settings();
+    uint32_t k = number();
+    uint16_t limit = (uint16_t)number();
+    lend(&records);
+    EndakuroPart r = endakuro_accept(prover, k, limit, lent_bytes(&records), records.length);
+    require(r.length || r.start == 0, "no part, with a start");
+    printf("ok");
+    tell_bytes(lent_bytes(&records) + r.start, r.length);
+}
+
+static void run(void) {
+    EndakuroProver prover = settings();
+    uint32_t k = number();
+    lend(&records);
+    EndakuroRun r = endakuro_run(prover, k, lent_bytes(&records), records.length);
+    tell(r.number, r.record,
+         VALUES((int64_t)r.indicated, (int64_t)r.cts, (int64_t)r.cps, (int64_t)r.prover_cpl, (int64_t)r.prover_factor,
+                (int64_t)r.meter_cpl, (int64_t)r.meter_product, (int64_t)r.prover_volume, (int64_t)r.meter_volume,
+                (int64_t)r.factor));
+}
+
+static void draw(void) {
+    EndakuroProver prover = settings();
+    lend(&records);
+    EndakuroDraw r = endakuro_draw(prover, lent_bytes(&records), records.length);
+    tell(r.number, r.record, VALUES((int64_t)r.base, (int64_t)r.barrels, r.first));
+}
+
+static void fill(void) {
+    read_metal();
+    lend(&records);
+    EndakuroFill r = endakuro_fill(metal, coefficient, lent_bytes(&records), records.length);
+    tell(r.number, r.record,
+         VALUES((int64_t)r.adjusted, (int64_t)r.measure, (int64_t)r.prover, (int64_t)r.ccts, (int64_t)r.drawn));
+}
+
+static void passes(void) {
+    EndakuroProver prover = settings();
+    lend(&records);
+    EndakuroPasses r = endakuro_passes(prover, lent_bytes(&records), records.length);
+    int64_t values[21] = {r.count};
+    for (int i = 0; i < 20; i++) {
+        values[i + 1] = (int64_t)r.volumes[i];
+        require(i < r.count || r.volumes[i] == 0, "a volume after the last pass");
+    }
+    tell(r.number, r.record, values, 1 + r.count);
+}
+
+static void ticket(void) {
+    EndakuroTicket t;
+    t.opening = number();
+    t.closing = number();
+    t.mf = (uint16_t)number();
+    t.ctl = (uint16_t)number();
+    t.pressure = (uint16_t)number();
+    t.compressibility = (uint16_t)number();
+    t.sediment = number();
+    EndakuroVolumes r = endakuro_ticket(t);
+    tell(r.number, r.record, VALUES(r.factor, r.gross, r.net));
+}
+
+static void live(void) {
+    float temperature = single();
+    EndakuroLive r = endakuro_live(temperature, single());
+    tell(r.number, r.record, VALUES(r.tenths, r.psi));
+}
+
+static void tell_report(EndakuroReport r) {
+    tell(r.number, r.record, VALUES(r.request, r.factor, r.first, r.runs, r.f1, r.f2, r.f3, r.f4, r.f5));
+}
+
+static void write(void) {
+    uint32_t request = number();
+    uint8_t count = (uint8_t)number(), first = (uint8_t)number();
+    EndakuroFactors f;
+    f.f1 = (uint16_t)number();
+    f.f2 = (uint16_t)number();
+    f.f3 = (uint16_t)number();
+    f.f4 = (uint16_t)number();
+    f.f5 = (uint16_t)number();
+    lend(&buffer);
+    EndakuroReport r = endakuro_write(request, count, first, f, lent_bytes(&buffer), buffer.length);
+    int told = r.request == request && r.runs == count && r.first == first && r.f1 == f.f1 && r.f2 == f.f2 &&
+               r.f3 == f.f3 && r.f4 == f.f4 && r.f5 == f.f5;
+    require(r.number || told, "another report");
+    require(r.number == 0 || (r.request | r.factor | r.first | r.runs | r.f1 | r.f2 | r.f3 | r.f4 | r.f5) == 0,
+            "refused, with a value");
+    tell(r.number, r.record, NULL, 0);
+    tell_lent(&buffer);
+}
+
+static void read(void) {
+    lend(&buffer);
+    tell_report(endakuro_read(lent_bytes(&buffer), buffer.length));
+}
+
+static void request(void) {
+    uint8_t shipper = (uint8_t)number();
+    EndakuroDone r = endakuro_request(&kept, shipper, number());
+    tell(r.number, r.record, NULL, 0);
+}
+
+static void withdraw(void) {
+    uint8_t shipper = (uint8_t)number();
+    EndakuroDone r = endakuro_withdraw(&kept, shipper, number());
+    tell(r.number, r.record, NULL, 0);
+}
+
+static void take(void) {
+    EndakuroTaken r = endakuro_take(&kept);
+    tell(r.number, r.record, VALUES(r.shipper, r.request));
+}
+
+static void book(void) {
+    if (!endakuro_is_sound(&kept)) {
+        printf("refused 20 0");
+        return;
+    }
+    printf("ok %u", kept.last);
+    for (int s = 0; s < 4; s++) {
+        printf(" %zu", kept.lines[s].count);
+        for (size_t i = 0; i < kept.lines[s].count; i++) printf(" %u", kept.lines[s].numbers[i]);
+    }
+}
+
+static void load(void) {
+    kept.last = (uint8_t)number();
+    for (int s = 0; s < 4; s++) kept.lines[s].count = number();
+    for (int s = 0; s < 4; s++)
+        for (int i = 0; i < 16; i++) kept.lines[s].numbers[i] = number();
+    printf("ok");
+}
+
+static void empty(void) {
+    kept = endakuro_empty();
+    printf("ok");
+}
+
+static const struct {
+    const char *name;
+    void (*answer)(void);
+} entries[] = {
+    {"cts", cts},         {"cps", cps},           {"cpl", cpl},   {"prove", prove},   {"runs", runs},
+    {"run", run},         {"draw", draw},         {"fill", fill}, {"passes", passes}, {"ticket", ticket},
+    {"live", live},       {"write", write},       {"read", read}, {"request", request}, {"withdraw", withdraw},
+    {"take", take},       {"book", book},         {"load", load}, {"empty", empty},
+};
+
+int main(void) {
+    kept = endakuro_empty();
+    while (fgets(line, sizeof line, stdin)) {
+        char *end = strchr(line, '\n');
+        if (end) *end = 0;
+        rest = line;
+        const char *name = next_word();
+        size_t i = 0;
+        while (i < sizeof entries / sizeof *entries && strcmp(entries[i].name, name) != 0) i++;
+        if (i == sizeof entries / sizeof *entries) {
+            printf("no such entry");
+        } else {
+            entries[i].answer();
+        }
+        putchar('\n');
+    }
+    return 0;
+}

@@ -1,0 +1,103 @@
+"""The C face: the header as C11 and C++17, its declarations against the Rattle source, every function through the linked archive
+beside the line program, and the example.
+
+Run: python3 tests/c_face.py [--lines N] [--seed S]     once `rt check endakuro` has built the line program
+"""
+
+import argparse
+import shutil
+import subprocess
+import sys
+from collections import Counter
+from pathlib import Path
+
+import declarations
+from cases import cases
+from compare import BAD, REACHES, entry_of, outcome, short
+from programs import Stopped, answers_of, is_silent
+
+ROOT = Path(__file__).resolve().parents[1]
+BUILT = ROOT / "target" / "c"
+LINE_PROGRAM = [str(ROOT / "tests" / "endakuro")]
+RUN = str(ROOT / "tests" / "c" / "run")
+
+ONLY_HEADER = b"#include <endakuro.h>\n"
+STRICT = ["-Wall", "-Wextra", "-Wpedantic", "-Werror"]
+SHOWN = 5
+
+
+def compilers():
+    """The kit's compiler for x86-64, and the machine's own where it has them: they bring their own headers."""
+    kit = [str(ROOT / "tests" / "c" / "compile")]
+    own = [[name, *STRICT, f"-I{ROOT / 'include'}"] for name in ("gcc", "clang") if shutil.which(name)]
+    return [kit, *own]
+
+
+def header():
+    faults = list(declarations.faults())
+    tried = 0
+    for compiler in compilers():
+        for language, standard in (("c", "c11"), ("c++", "c++17")):
+            words = ["-x", language, f"-std={standard}", "-fsyntax-only", "-"]
+            done = subprocess.run([*compiler, *words], input=ONLY_HEADER, capture_output=True)
+            tried += 1
+            if done.returncode:
+                faults.append(f"{compiler[0]} -std={standard}: {done.stderr.decode()}")
+    for fault in faults:
+        print(fault)
+    print(f"header: {declarations.counts()}; compiled {tried} times as C11 and C++17; faults {len(faults)}")
+    return not faults
+
+
+def build(name, source):
+    program = BUILT / name
+    done = subprocess.run([ROOT / "tests" / "c" / "build", program, ROOT / source], capture_output=True)
+    if done.returncode:
+        raise Stopped(f"{source} is not built: {done.stderr.decode()}")
+    return [RUN, str(program)]
+
+
+def lines(count, seed):
+    """The line program's answers are what C must give; a line that it calls bad calls no entry, and is left out."""
+    program = build("lines", "tests/c/lines.c")
+    asked = [line for line in cases(seed, count) if not is_silent(line)]
+    told = answers_of(LINE_PROGRAM, b"\n".join(asked) + b"\n")
+    calls = [(line.removesuffix(b"\r"), answer) for line, answer in zip(asked, told, strict=True) if outcome(answer) != BAD]
+    found = answers_of(program, b"\n".join(line for line, _ in calls) + b"\n")
+    differences = [(line, a, b) for (line, a), b in zip(calls, found) if a != b]
+    for line, expected, other in differences[:SHOWN]:
+        print(f"{short(line)}\n  line program {short(expected)}\n  C            {short(other)}")
+    reached = Counter((entry_of(line), outcome(answer)) for line, answer in calls)
+    missing = [f"{entry} {what}" for entry, answers in REACHES.items() for what in answers if not reached[entry, what]]
+    if missing:
+        print(f"never reached: {', '.join(missing)}")
+    missed = abs(len(calls) - len(found))
+    print(f"C beside the line program: {len(calls)} calls of {len(REACHES)} entries; differences {len(differences) + missed}")
+    return not differences and not missed and not missing
+
+
+def example():
+    found = answers_of(build("skid", "examples/c/skid.c"), b"")
+    expected = (ROOT / "examples/c/skid.txt").read_bytes().splitlines()
+    same = found == expected
+    if not same:
+        print(b"\n".join(found).decode())
+    print(f"examples/c/skid.c: {len(found)} lines, {'as' if same else 'NOT as'} skid.txt has them")
+    return same
+
+
+def main():
+    options = argparse.ArgumentParser(description="Test the C face.")
+    options.add_argument("--lines", type=int, default=40_000)
+    options.add_argument("--seed", type=int, default=2)
+    chosen = options.parse_args()
+    try:
+        held = [header(), lines(chosen.lines, chosen.seed), example()]
+    except Stopped as stop:
+        print(f"C face: stopped, {stop}")
+        return 1
+    return 0 if all(held) else 1
+
+
+if __name__ == "__main__":
+    sys.exit(main())
