@@ -1,0 +1,79 @@
+"""The line program as one open process: a line asked, its answer read."""
+
+import subprocess
+from dataclasses import dataclass
+from pathlib import Path
+
+ROOT = Path(__file__).resolve().parents[1]
+RUNNER = ROOT / "tests" / "endakuro"
+
+
+class ProgramFailed(Exception):
+    """The line program does not start, stops, or does not take a line that it should."""
+
+
+@dataclass(frozen=True)
+class Refusal:
+    number: int
+    record: int
+
+
+class Refused(Exception):
+    def __init__(self, refusal):
+        super().__init__(f"refused {refusal.number} {refusal.record}")
+        self.refusal = refusal
+
+
+class Program:
+    """Use as a context: the process ends with it."""
+
+    def __init__(self, command=(str(RUNNER),)):
+        self.command = command
+
+    def __enter__(self):
+        # A session of its own: Ctrl-C is for the front end, which ends the program when it has tidied up.
+        try:
+            self.process = subprocess.Popen(
+                self.command, stdin=subprocess.PIPE, stdout=subprocess.PIPE, start_new_session=True
+            )
+        except OSError as fault:
+            raise ProgramFailed(f"{self.command[0]} does not start: {fault.strerror}") from fault
+        return self
+
+    def __exit__(self, *_):
+        try:
+            self.process.stdin.close()
+        except BrokenPipeError:
+            pass
+        self.process.stdout.close()
+        self.process.wait()
+
+    def answer(self, *words):
+        """The answer's words to a line."""
+        line = " ".join(str(word) for word in words)
+        try:
+            self.process.stdin.write(line.encode() + b"\n")
+            self.process.stdin.flush()
+            told = self.process.stdout.readline()
+        except OSError as fault:
+            raise ProgramFailed("the line program has stopped") from fault
+        if not told.endswith(b"\n"):
+            raise ProgramFailed("the line program has stopped")
+        return told.decode("ascii").split()
+
+    def ask(self, *words):
+        """The values of an `ok`, as texts; a refusal is raised."""
+        kind, *values = self.answer(*words)
+        if kind == "ok":
+            return values
+        if kind == "refused":
+            raise Refused(Refusal(int(values[0]), int(values[1])))
+        raise ProgramFailed(f"the line program does not take this line: {' '.join(str(word) for word in words)}")
+
+    def numbers(self, *words):
+        """The values of an `ok`, as numbers."""
+        return [int(value) for value in self.ask(*words)]
+
+
+def hexed(octets):
+    return octets.hex() or "-"
