@@ -1,6 +1,6 @@
 """The line program's figures of a job, by name. Each is asked; none is worked out here."""
 
-from dataclasses import dataclass
+from dataclasses import dataclass, replace
 
 from . import fields
 from .program import hexed
@@ -39,8 +39,8 @@ def prove(job, program):
     return Outcome(factor, first, runs, tuple(five), bytes.fromhex(record))
 
 
-def tightest_limit(job, outcome, program):
-    """The smallest limit at which the accepted five would still be accepted, found by asking."""
+def with_spread(job, outcome, program):
+    """The outcome with the smallest limit at which its five would still be accepted, found by asking."""
     five = b"".join(job.runs[number - 1].record for number in outcome.accepted)
     low, high = fields.LIMIT.low, job.limit
     while low < high:
@@ -49,7 +49,7 @@ def tightest_limit(job, outcome, program):
             high = middle
         else:
             low = middle + 1
-    return high
+    return replace(outcome, within=high)
 
 
 def of_runs(job, program):

@@ -4,6 +4,7 @@ import threading
 import time
 
 WIDTH = 30
+CLEAR = "\x1b[K"
 
 
 def bar(done, total):
@@ -27,7 +28,11 @@ class Ticker:
 
     def draw(self):
         told = f"{self.done} of {self.total} {self.what}, {int(time.monotonic() - self.began)} s"
-        print(f"\r{bar(self.done, self.total)} {told}", end="", file=self.err, flush=True)
+        print(f"\r{CLEAR}{bar(self.done, self.total)} {told}", end="", file=self.err, flush=True)
+
+    def clear(self):
+        """Room for a line; the next drawing comes below it."""
+        print(f"\r{CLEAR}", end="", file=self.err, flush=True)
 
     def end(self):
         self.over.set()
