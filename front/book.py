@@ -50,11 +50,10 @@ def line_of(word):
 
 @dataclass(frozen=True)
 class Step:
-    """What the line program is asked, and how people say what was asked."""
+    """What the line program is asked, and how people say that it was done."""
 
     words: tuple
     told: str
-    about: str = ""
 
 
 def step_of(text):
@@ -68,8 +67,7 @@ def step_of(text):
     if name in ("request", "withdraw"):
         who, which = shipper(operands[0]), request(operands[1])
         done = "goes in" if name == "request" else "is withdrawn"
-        about = f"shipper {who}, range 0 to 3; number {which}, range 1 to 4,294,967,295"
-        return Step((name, who, which), f"request {which} of shipper {who} {done}", about)
+        return Step((name, who, which), f"request {which} of shipper {who} {done}")
     if name == "load":
         lines = [line_of(word) for word in operands[1:]]
         last = number(operands[0], "B", "the shipper last served, 0 to 3")
@@ -80,29 +78,56 @@ def step_of(text):
 
 
 def lines_of(program):
-    """The four lines, or that the book is not sound."""
+    """Each shipper's waiting numbers and the last served, or None where the book is not sound."""
     try:
         last, *rest = program.numbers("book")
     except Refused:
-        return ["the book is not sound"]
-    shown = []
-    for each in range(SHIPPERS):
+        return None, None
+    lines = []
+    for _ in range(SHIPPERS):
         count, *rest = rest
-        waiting, rest = rest[:count], rest[count:]
-        shown.append(f"shipper {each}: {' '.join(str(number) for number in waiting) or '-'}")
-    return [*shown, f"last served: shipper {last}"]
+        lines.append(rest[:count])
+        rest = rest[count:]
+    return lines, last
+
+
+def shown(lines, last):
+    if lines is None:
+        return ["  the book is not sound"]
+    told = [f"  shipper {who}: {' '.join(map(str, waiting)) or '-'}" for who, waiting in enumerate(lines)]
+    return [*told, f"  last served: shipper {last}"]
+
+
+def about(number, words, lines):
+    """What of a step and of the book a refusal is about."""
+    who, which = (*words[1:], None, None)[:2]
+    match number:
+        case 20:
+            return "counts, places or the last served break the book's rules"
+        case 21:
+            return f"shipper is {who}, range 0 to 3"
+        case 22:
+            return f"request number is {which}, range 1 to 4,294,967,295"
+        case 23:
+            return f"request {which} waits in the line of shipper {who}"
+        case 24:
+            return f"shipper {who} has {len(lines[who])} waiting, range up to 8"
+        case 25:
+            return f"shipper {who} has {len(lines[who])} waiting, range up to 2 while the 8 shared places are used up"
+        case 26:
+            return f"request {which} does not wait in the line of shipper {who}"
+    return "no shipper has a request waiting"
 
 
 def do(step, program):
     """One step: what to print, and whether it was refused."""
     try:
         values = program.ask(*step.words)
-        told = step.told.format(*values) if step.words[0] == "take" else step.told
-        refused = False
+        told, refused = step.told.format(*values), False
     except Refused as fault:
-        about = (step.about,) if step.about else ()
-        told, refused = Explained(fault.refusal.number, 0, about).line, True
-    return [told] * bool(told) + ["  " + line for line in lines_of(program)], refused
+        number = fault.refusal.number
+        told, refused = Explained(number, 0, (about(number, step.words, lines_of(program)[0]),)).line, True
+    return [told] * bool(told) + shown(*lines_of(program)), refused
 
 
 def session(source, name, program, out=sys.stdout):
@@ -120,14 +145,14 @@ def session(source, name, program, out=sys.stdout):
         if not keyboard:
             print(f"> {text}", file=out)
         try:
-            shown, refused = ([STEPS], False) if text == "help" else do(step_of(text), program)
+            told, refused = ([STEPS], False) if text == "help" else do(step_of(text), program)
         except BadStep as bad:
             if not keyboard:
                 print(f"{name}: line {place}: {bad}", file=sys.stderr)
                 return 2
-            shown, refused = [str(bad)], False
+            told, refused = [str(bad)], False
         any_refused = any_refused or refused
-        print("\n".join(shown), file=out, flush=True)
+        print("\n".join(told), file=out, flush=True)
     return 1 if any_refused and not keyboard else 0
 
 

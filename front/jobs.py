@@ -129,7 +129,12 @@ def entries_of(top, key, every, known, layout):
 def heading_of(top):
     table = top.table("heading", needed=False)
     table.only(HEADING)
-    return {key: table.text(key) for key in table.values}
+    texts = {key: table.text(key) for key in table.values}
+    for key, words in texts.items():
+        # A page and a picture hold lines of text; a control character could do anything to a terminal.
+        if not words.isprintable():
+            raise table.bad(key, "expected one line of text without control characters")
+    return texts
 
 
 def proving_of(top):

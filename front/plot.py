@@ -1,6 +1,8 @@
 """The run factors as a picture: SVG, drawn by hand. Only the places of marks are worked out here."""
 
+import math
 import re
+import textwrap
 from xml.sax.saxutils import escape
 
 from .fields import LIMIT
@@ -66,17 +68,22 @@ def axes(frame):
     return drawn
 
 
-def band(frame, job, outcome):
-    """The band of the limit over the accepted five, and the meter factor through it."""
-    smallest = min(outcome.five)
-    top, floor = frame.y(band_top(smallest, job.limit)), frame.y(smallest)
-    left, right = frame.x(outcome.first - 0.5), frame.x(outcome.accepted[-1] + 0.5)
+def band(frame, factors, runs, limit):
+    """The band of the limit above the smallest of these factors, over their runs."""
+    top, floor = frame.y(band_top(min(factors), limit)), frame.y(min(factors))
+    left, right = frame.x(runs[0] - 0.5), frame.x(runs[-1] + 0.5)
     place = f'x="{left:.1f}" y="{top:.1f}" width="{right - left:.1f}" height="{floor - top:.1f}"'
-    mean, beside = frame.y(outcome.factor), WIDTH - RIGHT + 10
+    return [f'<rect class="band" {place} fill="{BAND}"/>']
+
+
+def meter_factor(frame, factor):
+    """The accepted five's mean, as a line with its name."""
+    y = frame.y(factor)
+    look = ' class="meter-factor" stroke-width="1.5" stroke-dasharray="8 4"'
+    told = f"meter factor {shown(factor, 4)}"
     return [
-        f'<rect class="band" {place} fill="{BAND}"/>',
-        line(LEFT, mean, WIDTH - RIGHT, mean, ACCEPTED, ' class="meter-factor" stroke-width="1.5" stroke-dasharray="8 4"'),
-        label(beside, mean + 4, f"meter factor {shown(outcome.factor, 4)}", "start", extra=f' fill="{ACCEPTED}"'),
+        line(LEFT, y, WIDTH - RIGHT, y, ACCEPTED, look),
+        label(WIDTH - RIGHT + 10, y + 4, told, "start", extra=f' fill="{ACCEPTED}"'),
     ]
 
 
@@ -95,29 +102,33 @@ def marks(frame, factors, accepted):
 
 
 def legend(job, outcome):
+    """What the marks mean, beside the top of the picture."""
     x, y = WIDTH - RIGHT + 18, TOP + 6
-    rows = [(f'<circle cx="{x}" cy="{{y}}" r="6" fill="{OTHER}" stroke="{INK}"/>', "run")]
-    if outcome:
-        rows.insert(0, (f'<circle cx="{x}" cy="{{y}}" r="6" fill="{ACCEPTED}" stroke="{INK}"/>', "accepted run"))
-        rows.append((f'<rect x="{x - 7}" y="{{top}}" width="14" height="12" fill="{BAND}"/>', f"limit, {LIMIT.text(job.limit)}"))
+    circle = f'<circle cx="{x}" cy="{{y}}" r="6" fill="{{fill}}" stroke="{INK}"/>'
+    square = f'<rect x="{x - 7}" y="{{top}}" width="14" height="12" fill="{{fill}}"/>'
+    rows = [(circle, ACCEPTED, "accepted run")] if outcome else []
+    rows += [(circle, OTHER, "run"), (square, BAND, f"limit, {LIMIT.text(job.limit)}")]
     drawn = []
-    for at, (mark, told) in enumerate(rows):
+    for at, (mark, fill, told) in enumerate(rows):
         here = y + 24 * at
-        drawn += [mark.format(y=here, top=here - 6), label(x + 14, here + 4, told, "start")]
+        drawn += [mark.format(y=here, top=here - 6, fill=fill), label(x + 14, here + 4, told, "start")]
     return drawn
+
+
+def summary(job, outcome):
+    if not outcome:
+        return f"no five in a row within {LIMIT.text(job.limit)} of the smallest"
+    return f"runs {outcome.first} to {outcome.accepted[-1]} accepted, meter factor {shown(outcome.factor, 4)}"
 
 
 def draw(job, figures, outcome):
     """The picture's text."""
     factors = [own["factor"] for own in figures]
-    top = max(factors)
-    if outcome:
-        top = max(top, int(band_top(min(outcome.five), job.limit)) + 1)
+    # Without an accepted five the band stands on the smallest of all, to show how far they lie apart.
+    banded, runs = (outcome.five, outcome.accepted) if outcome else (factors, range(1, len(factors) + 1))
+    top = max(*factors, math.ceil(band_top(min(banded), job.limit)))
     frame = Frame(len(factors), min(factors), top)
-    name = job.heading.get("title", job.path)
-    told = f"runs {outcome.first} to {outcome.accepted[-1]} accepted, meter factor {shown(outcome.factor, 4)}" if outcome else (
-        f"no five in a row within {LIMIT.text(job.limit)} of the smallest"
-    )
+    name, told = textwrap.shorten(job.heading.get("title", job.path), 70, placeholder=" .."), summary(job, outcome)
     parts = [
         f'<svg xmlns="http://www.w3.org/2000/svg" width="{WIDTH}" height="{HEIGHT}" viewBox="0 0 {WIDTH} {HEIGHT}"'
         f' font-family="DejaVu Sans, Arial, sans-serif" fill="{INK}" role="img">',
@@ -125,7 +136,8 @@ def draw(job, figures, outcome):
         f'<rect width="{WIDTH}" height="{HEIGHT}" fill="#ffffff"/>',
         label(LEFT, 34, name, "start", 18, ' font-weight="bold"'),
         label(LEFT, 58, f"Request {job.request}: {told}", "start", 13),
-        *(band(frame, job, outcome) if outcome else []),
+        *band(frame, banded, runs, job.limit),
+        *(meter_factor(frame, outcome.factor) if outcome else []),
         *axes(frame),
         *marks(frame, factors, outcome.accepted if outcome else ()),
         *legend(job, outcome),

@@ -73,7 +73,11 @@ class Stop:
 
 def rework(folder, out, program, err=sys.stderr):
     """The exit status: 0 all accepted, 1 some refused, 2 some files bad, 130 stopped by Ctrl-C."""
+    if not Path(folder).is_dir():
+        raise BadFile(folder, "", "is not a folder: expected one that holds job files")
     paths = sorted(Path(folder).glob("*.toml"))
+    if not paths:
+        raise BadFile(folder, "", "holds no job file: expected *.toml")
     counts = {ACCEPTED: 0, REFUSED: 0, BAD: 0}
     ticker = Ticker(len(paths), "jobs", err) if err.isatty() else None
     with open(out, "w", newline="", encoding="utf-8") as file, Stop() as stop:
