@@ -33,7 +33,8 @@ class Unit:
         """The count that a written number is, exactly."""
         number, unit = split(str(written))
         if unit and unit not in self.spellings:
-            raise Inexact(f"{written} is not in {self.name or 'a plain number'}: expected {self.expected}")
+            wanted = f"in {self.name}" if self.name else "a plain number"
+            raise Inexact(f"{written} is not {wanted}: expected {self.expected}")
         return self.whole(number)
 
     @property

@@ -1,0 +1,23 @@
+"""The tests of the front end, a line each. Run: python3 tests/front [NAME ..]"""
+
+import importlib
+import sys
+import time
+from pathlib import Path
+
+sys.path.insert(0, str(Path(__file__).resolve().parent))
+NAMES = ("examples", "badfiles")
+
+
+def main():
+    failed = 0
+    for name in sys.argv[1:] or NAMES:
+        began = time.monotonic()
+        tally = importlib.import_module(name).test()
+        seconds = int(time.monotonic() - began)
+        print(f"front {tally.name}: {tally.checked} checked, {tally.wrong} wrong, {seconds} s", flush=True)
+        failed += bool(tally.wrong or not tally.checked)
+    return 1 if failed else 0
+
+
+sys.exit(main())
