@@ -6,7 +6,7 @@ import time
 from pathlib import Path
 
 sys.path.insert(0, str(Path(__file__).resolve().parent))
-NAMES = ("examples", "badfiles")
+NAMES = ("examples", "badfiles", "reports", "worksheets", "plots", "reworks", "sessions")
 
 
 def main():

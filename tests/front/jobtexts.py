@@ -10,6 +10,8 @@ ROOT = Path(__file__).resolve().parents[2]
 sys.path[:0] = [str(ROOT), str(ROOT / "tests")]
 
 from cases import proving_halves  # noqa: E402
+from cases import tickets as ticket_cases  # noqa: E402
+from cases.draw_days import valid_draw  # noqa: E402
 from cases.plain import fitted_job  # noqa: E402
 from cases.proving_days import valid_job  # noqa: E402
 from cases.shapes import Job, Prover, Run  # noqa: E402
@@ -81,3 +83,16 @@ def halves(count, seed):
     aimed.append(fitted_job(Run(prover_pressure=30), Prover(inside=25_000, wall=500), 10_000_000))
     lines = (line for line in proving_halves.halves(rng) if line.startswith(b"prove"))
     return aimed + [from_line(line) for line in itertools.islice(lines, count - len(aimed))]
+
+
+def draws(count, seed):
+    """Water draws as a skid has them."""
+    rng = random.Random(seed)
+    return [valid_draw(rng) for _ in range(count)]
+
+
+def tickets(count, seed):
+    """Tickets within the ranges, exact halves of each rounding among them."""
+    rng = random.Random(seed)
+    kinds = (ticket_cases.valid, ticket_cases.factor_half, ticket_cases.gross_half, ticket_cases.net_half)
+    return [kinds[at % len(kinds)](rng) for at in range(count)]
