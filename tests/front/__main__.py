@@ -6,7 +6,9 @@ import time
 from pathlib import Path
 
 sys.path.insert(0, str(Path(__file__).resolve().parent))
-NAMES = ("examples", "badfiles", "reports", "worksheets", "plots", "reworks", "sessions")
+NAMES = (
+    "examples", "badfiles", "reports", "worksheets", "plots", "reworks", "sessions", "building", "helping", "readme",
+)  # fmt: skip
 
 
 def main():
