@@ -36,9 +36,11 @@ def parser():
 
     draw = command("draw", commands.draw, "a water draw: the prover's base volume", helps.DRAW)
     draw.add_argument("job", metavar="JOB.toml", help="the job file")
+    draw.add_argument("--worksheet", metavar="OUT.csv", help="write the job as a spreadsheet with live formulas")
 
     ticket = command("ticket", commands.ticket, "a measurement ticket: gross and net volume", helps.TICKET)
     ticket.add_argument("job", metavar="JOB.toml", help="the job file")
+    ticket.add_argument("--worksheet", metavar="OUT.csv", help="write the ticket as a spreadsheet with live formulas")
 
     live = command("live", commands.live, "a live reading: singles to tenths and psi", helps.LIVE)
     live.add_argument("job", metavar="JOB.toml", help="the job file")

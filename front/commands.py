@@ -2,8 +2,9 @@
 
 import sys
 
-from . import draw_report, faults, figures, jobs, plot, report, report_record, rework, short_pages, worksheet
 from . import book as books
+from . import draw_report, draw_worksheet, faults, figures, jobs, plot, report, report_record, rework, short_pages
+from . import ticket_worksheet, worksheet
 from .jobfiles import BadFile
 from .program import Refused
 
@@ -52,28 +53,30 @@ def draw(options, program):
         if refusal.number != NO_GROUP:
             return refuse(job.path, faults.explain(job, refusal, program))
     fills, passes = figures.of_fills(job, program), figures.of_passes(job, program)
-    if refusal:
-        show(draw_report.unaccepted_page(job, fills, passes))
-        return refuse(job.path, faults.explain(job, refusal, program))
-    show(draw_report.accepted_page(job, fills, passes, answer))
-    return DONE
+    show(draw_report.accepted_page(job, fills, passes, answer) if answer else draw_report.unaccepted_page(job, fills, passes))
+    if options.worksheet:
+        draw_worksheet.build(job, passes, answer).write(options.worksheet)
+    return refuse(job.path, faults.explain(job, refusal, program)) if refusal else DONE
 
 
 def ticket(options, program):
-    return short(options, program, "ticket", figures.ticket, short_pages.ticket)
+    job = jobs.read(options.job, "ticket")
+    try:
+        answer = figures.ticket(job, program)
+    except Refused as refused:
+        return refuse(job.path, faults.explain(job, refused.refusal, program))
+    show(short_pages.ticket(job, answer))
+    if options.worksheet:
+        ticket_worksheet.build(job, answer).write(options.worksheet)
+    return DONE
 
 
 def live(options, program):
-    return short(options, program, "live", figures.live, short_pages.live)
-
-
-def short(options, program, kind, asked, page):
-    job = jobs.read(options.job, kind)
+    job = jobs.read(options.job, "live")
     try:
-        answer = asked(job, program)
+        show(short_pages.live(job, figures.live(job, program)))
     except Refused as refused:
         return refuse(job.path, faults.explain(job, refused.refusal, program))
-    show(page(job, answer))
     return DONE
 
 

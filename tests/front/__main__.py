@@ -5,7 +5,8 @@ import sys
 import time
 from pathlib import Path
 
-sys.path.insert(0, str(Path(__file__).resolve().parent))
+HERE = Path(__file__).resolve().parent
+sys.path[:0] = [str(HERE), str(HERE.parent), str(HERE.parents[1])]
 NAMES = (
     "examples", "badfiles", "reports", "worksheets", "plots", "reworks", "sessions", "building", "helping", "readme",
 )  # fmt: skip

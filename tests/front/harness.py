@@ -4,12 +4,10 @@ import os
 import pty
 import select
 import subprocess
-import sys
 import time
 from pathlib import Path
 
 ROOT = Path(__file__).resolve().parents[2]
-sys.path[:0] = [str(ROOT), str(ROOT / "tests")]
 LAUNCHER = ROOT / "endakuro"
 MOST_SHOWN = 5
 

@@ -2,22 +2,18 @@
 
 import itertools
 import random
-import sys
-from dataclasses import asdict
-from pathlib import Path
+from dataclasses import asdict, replace
 
-ROOT = Path(__file__).resolve().parents[2]
-sys.path[:0] = [str(ROOT), str(ROOT / "tests")]
-
-from cases import proving_halves  # noqa: E402
-from cases import tickets as ticket_cases  # noqa: E402
-from cases.draw_days import valid_draw  # noqa: E402
-from cases.plain import fitted_job  # noqa: E402
-from cases.proving_days import valid_job  # noqa: E402
-from cases.shapes import Job, Prover, Run  # noqa: E402
-from front import fields  # noqa: E402
-from front.records import LENGTH, RUN_LAYOUT  # noqa: E402
-from front.units import shown  # noqa: E402
+from cases import draw_halves as half_cases
+from cases import proving_halves
+from cases import tickets as ticket_cases
+from cases.draw_days import valid_draw
+from cases.plain import fitted_job
+from cases.proving_days import valid_job
+from cases.shapes import Draw, Fill, Job, Prover, Run
+from front import fields
+from front.records import LENGTH, RUN_LAYOUT
+from front.units import shown
 
 
 def written(key, count, known):
@@ -89,6 +85,26 @@ def draws(count, seed):
     """Water draws as a skid has them."""
     rng = random.Random(seed)
     return [valid_draw(rng) for _ in range(count)]
+
+
+def draw_halves(count, seed):
+    """Draws of three like passes with an exact half in what is drawn, in CCTS or in a pass."""
+    rng = random.Random(seed)
+    made = []
+    for at in range(count):
+        draw = (half_cases.drawn_half, half_cases.ccts_half, half_cases.pass_half)[at % 3](rng)
+        if len(draw.fills) == 1:
+            draw = replace(draw, fills=tuple(replace(draw.fills[0], pass_number=number) for number in (1, 2, 3)))
+        made.append(draw)
+    return made
+
+
+def widest_draws():
+    """Draws at the ends of the ranges: sixty of the largest fills in the thinnest pipe, three of the smallest."""
+    thin = Prover(4, 400, 60_000, 100, 10_000_000)
+    large = [Fill(100_000_000, 10_000, 350, 1050, 400, 1_020_000, 1 + at // 20, 1500) for at in range(60)]
+    small = [Fill(20_000, -10_000, 1050, 321, 400, 980_000, number, 1500) for number in (1, 2, 3)]
+    return [Draw(tuple(fills), thin) for fills in (large, small)]
 
 
 def tickets(count, seed):

@@ -3,68 +3,54 @@
 import tempfile
 from pathlib import Path
 
+import cells
 import jobtexts
 import office
-from harness import ROOT, Tally
+from harness import Tally
 
-from front import fields, figures, jobs, worksheet
-from front.program import Program, Refused, hexed
+from front import draw_worksheet, figures, jobs, ticket_worksheet, worksheet
+from front.program import Program, Refused
 from front.sheet import FIRST_COLUMN
-from front.units import shown
 
-DAYS, HALVES = 180, 90
-FIVE = fields.GROUP_OF_RUNS
-WIDEST = fields.LIMIT.high
+DAYS, HALVES, DRAWS, TICKETS = 160, 100, 30, 40
 
 
-def outcome_of(job, program):
-    """A job's outcome, None where no five agree; any other refusal has no worksheet."""
+def outcome_of(asked, job, program):
+    """A job's outcome, None where no group agrees; any other refusal has no worksheet."""
     try:
-        return figures.prove(job, program)
+        return asked(job, program)
     except Refused as refused:
         if refused.refusal.number != 9:
             raise
         return None
 
 
-def asked(job, runs, outcome, program):
-    """What the program says of every computed cell, by its name and column."""
-    cells = {(key, at): own[key] for at, own in enumerate(runs) for key in figures.OF_A_RUN}
-    cells |= {(f"read_{key}", at): read(count) for (key, at), count in cells.items()}
-    factors = [own["factor"] for own in runs]
-    for at in range(len(runs) - FIVE + 1):
-        five, own = job.runs[at : at + FIVE], factors[at : at + FIVE]
-        meets, mean = group(job, five, program)
-        cells |= {("largest", at): max(own), ("smallest", at): min(own), ("meets", at): meets}
-        cells |= {("spread", at): (max(own) - min(own)) * 10_000, ("allowed", at): job.limit * min(own)}
-        if mean is not None:
-            cells["mean", at] = mean
-    cells["any", 0] = sum(value for (key, _), value in cells.items() if key == "meets")
-    cells["first", 0] = outcome.first if outcome else "none"
-    cells["meter_factor", 0] = outcome.factor if outcome else "none"
-    cells["read_meter_factor", 0] = read(outcome.factor) if outcome else "none"
-    cells["agree", 0] = "yes"
-    return cells
+def proving(job, program):
+    outcome, runs = outcome_of(figures.prove, job, program), figures.of_runs(job, program)
+    return worksheet.build(job, runs, outcome), cells.of_proving(job, runs, outcome, program)
 
 
-def read(count):
-    """A count with its point, as a spreadsheet writes it: without zeros at the end."""
-    return shown(count, 4, group=False).rstrip("0").rstrip(".")
+def draw(job, program):
+    answer = outcome_of(figures.draw, job, program)
+    fills, passes = figures.of_fills(job, program), figures.of_passes(job, program)
+    return draw_worksheet.build(job, passes, answer), cells.of_draw(job, fills, passes, answer, program)
 
 
-def group(job, five, program):
-    """Whether these five alone are accepted, and their mean: at the widest limit where the job's refuses them."""
-    records = hexed(b"".join(run.record for run in five))
+def ticket(job, program):
+    told = figures.ticket(job, program)
+    return ticket_worksheet.build(job, told), cells.of_ticket(told)
 
-    def at(limit):
-        words = (1, *job.prover.words, job.k_factor, limit, hexed(bytes(32)), records)
-        try:
-            return program.ask("prove", *words)[0]
-        except Refused:
-            return None
 
-    mean = at(job.limit)
-    return (0, at(WIDEST)) if mean is None else (1, mean)
+MAKERS = {"prove": proving, "draw": draw, "ticket": ticket}
+
+
+def texts():
+    """Job files by chance, exact halves of every rounding among them."""
+    provings = jobtexts.days(DAYS, 1) + jobtexts.halves(HALVES, 2)
+    draws = jobtexts.draws(DRAWS, 3) + jobtexts.draw_halves(DRAWS, 4) + jobtexts.widest_draws()
+    tickets = jobtexts.tickets(TICKETS, 5)
+    for written, given in ((jobtexts.proving_text, provings), (jobtexts.draw_text, draws), (jobtexts.ticket_text, tickets)):
+        yield from map(written, given)
 
 
 def formulas(sheet):
@@ -75,34 +61,38 @@ def formulas(sheet):
                 yield key, at
 
 
+def made(folder, program):
+    """Each job's sheet, written beside it, with what its cells must show."""
+    sheets = []
+    for number, text in enumerate(texts()):
+        path = Path(folder) / f"{number}.toml"
+        path.write_text(text)
+        job = jobs.read(str(path))
+        try:
+            sheet, told = MAKERS[job.kind](job, program)
+        except Refused:
+            continue
+        sheet.write(path.with_suffix(".csv"))
+        sheets.append((f"{job.kind} {number}", path.with_suffix(".csv"), sheet, told))
+    return sheets
+
+
 def test():
     tally = Tally("worksheets")
-    made = jobtexts.days(DAYS, 1) + jobtexts.halves(HALVES, 2)
     unasked = 0
     with tempfile.TemporaryDirectory() as folder, Program() as program:
-        sheets = []
-        for number, given in enumerate(made):
-            path = Path(folder) / f"{number}.toml"
-            path.write_text(jobtexts.proving_text(given))
-            job = jobs.read(str(path), "prove")
-            tally.same(job.records, given.records, f"job {number}: records")
-            try:
-                outcome = outcome_of(job, program)
-            except Refused:
-                continue
-            runs = figures.of_runs(job, program)
-            sheet = worksheet.build(job, runs, outcome)
-            sheet.write(path.with_suffix(".csv"))
-            sheets.append((number, sheet, asked(job, runs, outcome, program)))
-        results = office.recalculated([Path(folder) / f"{number}.csv" for number, *_ in sheets], folder)
-    for (number, sheet, told), rows in zip(sheets, results):
+        sheets = made(folder, program)
+        results = office.recalculated([path for _, path, *_ in sheets], folder)
+    for (name, _, sheet, told), rows in zip(sheets, results):
         for key, at in formulas(sheet):
-            if (key, at) not in told:
+            if told[key, at] is None:
                 unasked += 1
                 continue
-            tally.same(sheet.found(rows, key, at), str(told[key, at]), f"job {number}: {key}, column {at + 1}")
-    # Means of fives that agree at no limit are all that cannot be asked for.
-    tally.check(unasked < 100, f"{unasked} cells have no figure to compare with")
-    tally.check(len(sheets) >= 200, f"only {len(sheets)} jobs have a worksheet")
-    tally.name = f"worksheets ({len(sheets)} jobs in LibreOffice)"
+            tally.same(sheet.found(rows, key, at), str(told[key, at]), f"{name}: {key}, column {at + 1}")
+    # A group's mean is told by no entry when the group meets no limit.
+    tally.check(unasked < 120, f"{unasked} means have no figure to compare with")
+    counts = {kind: sum(name.startswith(kind) for name, *_ in sheets) for kind in MAKERS}
+    tally.check(counts["prove"] >= 200, f"only {counts['prove']} proving jobs have a worksheet")
+    told = ", ".join(f"{count} {kind}" for kind, count in counts.items())
+    tally.name = f"worksheets ({told} in LibreOffice)"
     return tally
