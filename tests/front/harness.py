@@ -9,7 +9,7 @@ from pathlib import Path
 
 ROOT = Path(__file__).resolve().parents[2]
 LAUNCHER = ROOT / "endakuro"
-MOST_SHOWN = 5
+MOST_SHOWN, LONGEST = 5, 600
 
 
 class Tally:
@@ -30,7 +30,7 @@ class Tally:
         return self.check(found == expected, f"{words}: expected {expected!r}, found {found!r}")
 
     def holds(self, text, part, words):
-        return self.check(part in text, f"{words}: expected {part!r} in {text!r}")
+        return self.check(part in text, f"{words}: expected {part!r} in {text[-LONGEST:]!r}")
 
 
 def run(*words, given="", folder="/", env=None):
