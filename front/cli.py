@@ -51,7 +51,7 @@ def parser():
     source.add_argument("--hex", metavar="BYTES", help="the record's bytes in hex instead")
 
     book = command("book", commands.book, "a session with the book of waiting requests", helps.BOOK)
-    book.add_argument("session", nargs="?", metavar="SESSION.txt", help="the steps, one a line; without it the keyboard")
+    book.add_argument("session", nargs="?", metavar="SESSION.txt", help="the steps, a line each; else the keyboard")
 
     rework = command("rework", commands.rework_folder, "all jobs of a folder: a CSV of results", helps.REWORK)
     rework.add_argument("folder", metavar="FOLDER", help="the folder of job files; folders inside it are left alone")

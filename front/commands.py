@@ -53,7 +53,10 @@ def draw(options, program):
         if refusal.number != NO_GROUP:
             return refuse(job.path, faults.explain(job, refusal, program))
     fills, passes = figures.of_fills(job, program), figures.of_passes(job, program)
-    show(draw_report.accepted_page(job, fills, passes, answer) if answer else draw_report.unaccepted_page(job, fills, passes))
+    if answer:
+        show(draw_report.accepted_page(job, fills, passes, answer))
+    else:
+        show(draw_report.unaccepted_page(job, fills, passes))
     if options.worksheet:
         draw_worksheet.build(job, passes, answer).write(options.worksheet)
     return refuse(job.path, faults.explain(job, refusal, program)) if refusal else DONE

@@ -99,7 +99,8 @@ def accepted_page(job, fills, passes, answer):
             ]
         ),
         *section("E. BASE VOLUME"),
-        *pairs([("Base volume", f"{CUBIC_INCH.text(base)}, the mean of the three"), ("In barrels", BARREL.text(barrels))]),
+        *pairs([("Base volume", f"{CUBIC_INCH.text(base)}, the mean of the three")]),
+        *pairs([("In barrels", BARREL.text(barrels))]),
         *page.signatures("Drawn"),
     ]
 

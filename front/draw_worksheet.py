@@ -41,8 +41,9 @@ def long_division():
     """The sum over the divisor, three digits at a time: each step's digits and what is left over."""
     left = "sum"
     for at in ("first", "second", "third", "fourth"):
-        yield Step(f"{at}_digits", f"{at} three digits", "", "of sum / (CPS x CPL)", f"INT({{{left}}}*1000/{{divisor}})")
-        yield Step(f"{at}_left", "left over", "", "", f"{{{left}}}*1000-{{{at}_digits}}*{{divisor}}")
+        digits = f"{at}_digits"
+        yield Step(digits, f"{at} three digits", "", "of sum / (CPS x CPL)", f"INT({{{left}}}*1000/{{divisor}})")
+        yield Step(f"{at}_left", "left over", "", "", f"{{{left}}}*1000-{{{digits}}}*{{divisor}}")
         left = f"{at}_left"
     digits = "(({first_digits}*1000+{second_digits})*1000+{third_digits})*1000+{fourth_digits}"
     yield Step("volume", "Volume", VOLUME, "the digits, rounded", f"{digits}+IF(2*{{fourth_left}}>={{divisor}},1,0)")

@@ -128,7 +128,8 @@ def of_live(job, refusal, program):
     except Refused:
         key = "temperature"
     field, given = fields.LIVE[key], job.singles[key]
-    return [f"{field.label} is {given.text} (single {given.bits}), range {field.range} to the nearest {field.unit.step}"]
+    judged = f"range {field.range} to the nearest {field.unit.step}"
+    return [f"{field.label} is {given.text} (single {given.bits}), {judged}"]
 
 
 FINDERS = {"prove": of_proving, "draw": of_draw, "ticket": of_ticket, "live": of_live}

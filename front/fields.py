@@ -1,4 +1,4 @@
-"""The paper's table of units and ranges, a line a field: what it is called, its key in a job file, what its place holds."""
+"""The paper's table of units and ranges, a line a field: its key in a job file, its name, what its place holds."""
 
 from dataclasses import dataclass
 

@@ -42,7 +42,7 @@ def prover(base):
         row("coefficient", f"{fields.COEFFICIENT.label}, {fields.COEFFICIENT.range};"),
         row("", "wins over the metal, one of both is needed"),
         *keys(fields.PIPE),
-        row("base_volume", f"{fields.BASE_VOLUME.label}, {fields.BASE_VOLUME.range}" if base else "may be given, is not used"),
+        *(keys(fields.named(fields.BASE_VOLUME)) if base else [row("base_volume", "may be given, is not used")]),
     ]
 
 

@@ -8,6 +8,8 @@ from .records import FILL_LAYOUT, LENGTH, RUN_LAYOUT
 from .singles import single
 
 HEADING = ("title", "report", "company", "station", "meter", "liquid", "batch", "operator", "date", "note")
+# Far more than any job may have; a line of the program holds them, so that the program refuses the job itself.
+MOST_ENTRIES = 4096
 # What tells the kind of a job: the table that no other kind has.
 KIND_OF_TABLE = {"run": "prove", "fill": "draw", "ticket": "ticket", "live": "live"}
 
@@ -110,7 +112,10 @@ def entries_of(top, key, every, known, layout):
     shared = top.table(every, needed=False)
     shared.only(list(known))
     entries = []
-    for table in top.tables(key, key):
+    listed = top.tables(key, key)
+    if len(listed) > MOST_ENTRIES:
+        raise top.bad(key, f"{len(listed)} are more than a line of the program holds: expected at most {MOST_ENTRIES}")
+    for table in listed:
         table.only([*known, "record"])
         if "record" in table.values:
             if len(table.values) > 1:

@@ -6,6 +6,7 @@ from pathlib import Path
 
 ROOT = Path(__file__).resolve().parents[1]
 RUNNER = ROOT / "tests" / "endakuro"
+LONGEST_SHOWN = 200
 
 
 class ProgramFailed(Exception):
@@ -68,7 +69,8 @@ class Program:
             return values
         if kind == "refused":
             raise Refused(Refusal(int(values[0]), int(values[1])))
-        raise ProgramFailed(f"the line program does not take this line: {' '.join(str(word) for word in words)}")
+        line = " ".join(str(word) for word in words)
+        raise ProgramFailed(f"the line program does not take this line: {line[:LONGEST_SHOWN]}")
 
     def numbers(self, *words):
         """The values of an `ok`, as numbers."""

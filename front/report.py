@@ -43,7 +43,8 @@ GROUPS = (
 VOLUMES = ("indicated", "prover_volume", "meter_volume")
 KEY = (
     "P in psi gage. CCFp = CTS x CPS x CTL x CPL, prover volume = base volume x CCFp.",
-    "Indicated = pulses / K, CCFm = CTL x CPL, meter volume = indicated x CCFm. Run factor = prover volume / meter volume.",
+    "Indicated = pulses / K, CCFm = CTL x CPL, meter volume = indicated x CCFm.",
+    "Run factor = prover volume / meter volume.",
 )
 
 
@@ -108,11 +109,12 @@ def runs_table(job, figures, accepted):
 
 def repeatability(job, outcome):
     numbers = list(outcome.accepted)
+    used = f"{numbers[0]} to {numbers[-1]} of {outcome.runs}: the first five in a row that agree, marked *"
     largest, smallest = max(outcome.five), min(outcome.five)
     at = {factor: number for number, factor in reversed(list(zip(numbers, outcome.five)))}
     return pairs(
         [
-            ("Accepted runs", f"{numbers[0]} to {numbers[-1]} of {outcome.runs}: the first five in a row that agree, marked *"),
+            ("Accepted runs", used),
             ("Largest run factor", f"{shown(largest, 4)}, run {at[largest]}"),
             ("Smallest run factor", f"{shown(smallest, 4)}, run {at[smallest]}"),
             ("Spread", f"within {LIMIT.text(outcome.within)} of the smallest; limit {LIMIT.text(job.limit)}: met"),

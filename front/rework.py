@@ -13,7 +13,9 @@ from .short_pages import live_words
 from .ticker import Ticker
 from .units import shown
 
-COLUMNS = ("file", "job", "outcome", "result", "unit", "first used", "of", "report record", "refusal", "at record", "words")
+COLUMNS = (
+    "file", "job", "outcome", "result", "unit", "first used", "of", "report record", "refusal", "at record", "words",
+)  # fmt: skip
 ACCEPTED, REFUSED, BAD = "accepted", "refused", "bad file"
 STOPPED = 130
 

@@ -1,4 +1,4 @@
-"""A sheet of labelled rows with live formulas, written as CSV. Cells are named, so that formulas and tests can find them."""
+"""A sheet of labelled rows with live formulas, written as CSV. Rows have names, for formulas and tests to find them."""
 
 import csv
 from typing import NamedTuple

@@ -46,6 +46,7 @@ def live_words(answer):
 
 def read(name, record, told):
     numbers = range(told["first"], told["first"] + fields.GROUP_OF_RUNS)
+    factors = [shown(factor, FACTOR.places) for factor in told["five"]]
     return [
         *page.title("REPORT RECORD", "read back"),
         *pairs(
@@ -54,7 +55,7 @@ def read(name, record, told):
                 ("Request number", str(told["request"])),
                 ("Meter factor", shown(told["factor"], FACTOR.places)),
                 ("Accepted runs", f"{numbers[0]} to {numbers[-1]} of {told['runs']}"),
-                *((f"Run factor, run {number}", shown(factor, FACTOR.places)) for number, factor in zip(numbers, told["five"])),
+                *((f"Run factor, run {number}", factor) for number, factor in zip(numbers, factors)),
                 ("Bytes", record.hex(" ")),
             ]
         ),

@@ -23,7 +23,8 @@ def build(job, figures):
     sheet.steps(STEPS, 1)
     sheet.note("3. RESULT", "Unit of one", "")
     for step in STEPS[2:]:
-        sheet.row(f"told_{step.key}", f"{step.label} of the ticket", step.unit, "as Endakuro gave it", [figures[step.key]])
+        told = [figures[step.key]]
+        sheet.row(f"told_{step.key}", f"{step.label} of the ticket", step.unit, "as Endakuro gave it", told)
     sheet.agree([(step.key, f"told_{step.key}", 0) for step in STEPS[2:]])
     sheet.note("4. AS READ", "Unit", "the steps with their points")
     for step in STEPS:

@@ -77,7 +77,8 @@ def results(sheet, figures, outcome):
     sheet.note("5. RESULT", "Unit of one", "")
     sheet.first_group("first", "First run used")
     sheet.of_first_group("meter_factor", "Meter factor", UNIT, "mean")
-    sheet.row("told", "Meter factor of the report", UNIT, "as Endakuro gave it", [outcome.factor if outcome else "none"])
+    told = outcome.factor if outcome else "none"
+    sheet.row("told", "Meter factor of the report", UNIT, "as Endakuro gave it", [told])
     factors = [own["factor"] for own in figures]
     sheet.row("told_runs", "Run factors of the report", UNIT, "as Endakuro gave them", factors)
     sheet.agree([("meter_factor", "told", 0), *(("factor", "told_runs", at) for at in range(len(factors)))])

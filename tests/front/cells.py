@@ -1,5 +1,5 @@
-"""What each computed cell of a worksheet must show: the line program's figure, or where a cell holds part of a product or
-a long division, the exact whole number."""
+"""What each computed cell of a worksheet must show: the line program's figure, or where a cell holds a part of a
+product or of a long division, the exact whole number."""
 
 from front import fields, figures
 from front.program import Refused, hexed
@@ -60,7 +60,8 @@ def asked(program, *words):
 def of_draw(job, fills, passes, answer, program):
     cells = {(key, at): own[key] for at, own in enumerate(fills) for key in figures.OF_A_FILL}
     for at, own in enumerate(passes):
-        cells |= {(key, at): own[key] for key in ("sum", "cps", "cpl", "volume")} | {("at_pressure", at): own["pressure"]}
+        cells |= {(key, at): own[key] for key in ("sum", "cps", "cpl", "volume")}
+        cells["at_pressure", at] = own["pressure"]
     volumes = ("adjusted", "drawn", "volume")
     factors = ("measure_cts", "prover_cts", "ccts", "cps", "cpl")
     pointed = {(f"read_{key}", at): read(count, 2) for (key, at), count in cells.items() if key in volumes}

@@ -1,4 +1,4 @@
-"""--help of everything: each command is listed, and each command's help names its options and every key with its range."""
+"""--help of everything: each command is listed, and its help names its options and every key with its range."""
 
 from harness import Tally, run
 
@@ -7,7 +7,7 @@ from front.jobs import HEADING
 
 PROVER = {**fields.PIPE, **fields.named(fields.COEFFICIENT)}
 KEYS = {
-    "prove": {**PROVER, **fields.named(fields.REQUEST, fields.K_FACTOR, fields.LIMIT, fields.BASE_VOLUME), **fields.RUN},
+    "prove": PROVER | fields.named(fields.REQUEST, fields.K_FACTOR, fields.LIMIT, fields.BASE_VOLUME) | fields.RUN,
     "draw": {**PROVER, **fields.FILL},
     "ticket": fields.TICKET,
     "live": fields.LIVE,
@@ -16,9 +16,12 @@ KEYS = {
     "rework": {},
 }
 WORDS = {
-    "prove": ("--record OUT", "--worksheet OUT", "--plot OUT", "[prover]", "[meter]", "[[run]]", "[every_run]", *fields.METALS),
-    "draw": ("[prover]", "[[fill]]", "[every_fill]", *fields.METALS),
-    "ticket": ("[ticket]",),
+    "prove": (
+        *("--record OUT", "--worksheet OUT", "--plot OUT"),
+        *("[prover]", "[meter]", "[[run]]", "[every_run]", *fields.METALS),
+    ),
+    "draw": ("--worksheet OUT", "[prover]", "[[fill]]", "[every_fill]", *fields.METALS),
+    "ticket": ("--worksheet OUT", "[ticket]"),
     "live": ("[live]", "nan or inf", "bits"),
     "read": ("RECORD", "--hex BYTES"),
     "book": ("request SHIPPER NUMBER", "withdraw SHIPPER NUMBER", "take", "empty", "load LAST L0 L1 L2 L3", "quit"),

@@ -27,7 +27,7 @@ def prover_text(prover, base):
     known = fields.PIPE | fields.named(fields.COEFFICIENT, fields.BASE_VOLUME)
     if prover.certificate:
         text += written("coefficient", prover.certificate, known)
-    for key, count in (("inside_diameter", prover.inside), ("wall_thickness", prover.wall), ("modulus", prover.modulus)):
+    for key, count in zip(fields.PIPE, (prover.inside, prover.wall, prover.modulus)):
         text += written(key, count, known)
     return text + (written("base_volume", prover.base, known) if base else "")
 
@@ -44,7 +44,8 @@ def proving_text(job):
 
 def draw_text(draw):
     text = prover_text(draw.prover, False)
-    names = {"certified_volume": "certified", "scale_reading": "scale", "measure_coefficient": "coefficient", "pass": "pass_number"}
+    names = {"certified_volume": "certified", "scale_reading": "scale"}
+    names |= {"measure_coefficient": "coefficient", "pass": "pass_number"}
     for fill in draw.fills:
         own = asdict(fill)
         text += "[[fill]]\n" + "".join(written(key, own[names.get(key, key)], fields.FILL) for key in fields.FILL)

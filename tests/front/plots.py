@@ -23,13 +23,15 @@ def drawn(tally, name, job, factors, outcome, text):
     tree = xml.fromstring(text)
     accepted = list(outcome.accepted) if outcome else []
     told = {kind: [mark.find(f"{SVG}title").text for mark in marks(tree, kind)] for kind in ("accepted", "other")}
-    for kind, numbers in (("accepted", accepted), ("other", [n for n in range(1, len(factors) + 1) if n not in accepted])):
+    others = [number for number in range(1, len(factors) + 1) if number not in accepted]
+    for kind, numbers in (("accepted", accepted), ("other", others)):
         tally.same(told[kind], [f"run {n}: {shown(factors[n - 1], 4)}" for n in numbers], f"{name}: {kind} runs")
     places = sorted((float(mark.get("cx")), float(mark.get("cy"))) for kind in told for mark in marks(tree, kind))
     for (_, y), factor in zip(places, factors):
         for (_, other_y), other in zip(places, factors):
             tally.check((y < other_y) == (factor > other), f"{name}: {factor} and {other} do not lie in their order")
-    tally.check(all(0 < x < plot.WIDTH and 0 < y < plot.HEIGHT for x, y in places), f"{name}: a mark is off the picture")
+    seen = all(0 < x < plot.WIDTH and 0 < y < plot.HEIGHT for x, y in places)
+    tally.check(seen, f"{name}: a mark is off the picture")
     bands = [rect for rect in tree.iter(f"{SVG}rect") if rect.get("class") == "band"]
     if tally.same(len(bands), 1, f"{name}: bands"):
         x, y, width, height = (float(bands[0].get(key)) for key in ("x", "y", "width", "height"))

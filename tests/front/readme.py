@@ -29,7 +29,7 @@ def test():
     page = PAGE.read_text()
     blocks = BLOCK.findall(page)
     tally.check(len(blocks) >= 2, f"{len(blocks)} blocks of commands")
-    tally.check(bool(blocks) and blocks[0][0].startswith("./endakuro prove examples/"), "the first command proves a job")
+    tally.check(blocks and blocks[0][0].startswith("./endakuro prove examples/"), "the first command proves a job")
     for command, shown in blocks:
         tally.same(shown, printed(command), f"$ {command}")
     return tally

@@ -77,7 +77,8 @@ def spread(tally, name, job, outcome, lines):
     tally.check(value(lines, "Smallest run factor").startswith(shown(low, 4)), f"{name}: smallest")
     tightest = outcome.within
     tally.check((high - low) * 10_000 <= tightest * low, f"{name}: {tightest} is not met")
-    tally.check(tightest == 1 or (high - low) * 10_000 > (tightest - 1) * low, f"{name}: {tightest} is not the tightest")
+    missed = tightest == 1 or (high - low) * 10_000 > (tightest - 1) * low
+    tally.check(missed, f"{name}: {tightest} is not the tightest")
     expected = f"within {shown(tightest, 2)} % of the smallest; limit {shown(job.limit, 2)} %: met"
     tally.same(value(lines, "Spread"), expected, name)
 

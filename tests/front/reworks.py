@@ -35,7 +35,8 @@ def mixed(tally, folder):
     for row in rows:
         parts = row["file"].split("-")
         if len(parts) > 2 and parts[1].isdigit() and (EXAMPLES / "refusals" / row["file"]).exists():
-            tally.same((row["job"], row["outcome"], int(row["refusal"])), (parts[0], "refused", int(parts[1])), row["file"])
+            found = (row["job"], row["outcome"], int(row["refusal"]))
+            tally.same(found, (parts[0], "refused", int(parts[1])), row["file"])
             tally.holds(out, f"{folder / row['file']}: {row['words']}\n", "a line a refusal")
     results = {row["file"]: (row["outcome"], row["result"], row["first used"]) for row in rows}
     for name, expected in (

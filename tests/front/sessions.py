@@ -41,8 +41,10 @@ def test():
     tally.check(out.endswith(LINES), f"the four lines: {out[-200:]!r}")
     status, out, _ = run("book", given="# a note\n\nload 2 1,2 - 3 -\ntake\nempty\nbook\nquit\ntake\n")
     tally.same(status, 0, "a session without refusals")
-    tally.holds(out, "> take\nrequest 1 of shipper 0 is taken\n  shipper 0: 2\n  shipper 1: -\n  shipper 2: 3\n", "take")
-    tally.check(out.endswith("> book\n  shipper 0: -\n  shipper 1: -\n  shipper 2: -\n  shipper 3: -\n  last served: shipper 3\n"), out)
+    taken = "> take\nrequest 1 of shipper 0 is taken\n  shipper 0: 2\n  shipper 1: -\n  shipper 2: 3\n"
+    tally.holds(out, taken, "take")
+    lines = "".join(f"  shipper {who}: -\n" for who in range(4))
+    tally.check(out.endswith(f"> book\n{lines}  last served: shipper 3\n"), f"an empty book: {out[-200:]!r}")
     with tempfile.TemporaryDirectory() as folder:
         path = Path(folder) / "session.txt"
         for line, words in BAD:

@@ -48,9 +48,9 @@ def texts():
     """Job files by chance, exact halves of every rounding among them."""
     provings = jobtexts.days(DAYS, 1) + jobtexts.halves(HALVES, 2)
     draws = jobtexts.draws(DRAWS, 3) + jobtexts.draw_halves(DRAWS, 4) + jobtexts.widest_draws()
-    tickets = jobtexts.tickets(TICKETS, 5)
-    for written, given in ((jobtexts.proving_text, provings), (jobtexts.draw_text, draws), (jobtexts.ticket_text, tickets)):
-        yield from map(written, given)
+    yield from map(jobtexts.proving_text, provings)
+    yield from map(jobtexts.draw_text, draws)
+    yield from map(jobtexts.ticket_text, jobtexts.tickets(TICKETS, 5))
 
 
 def formulas(sheet):
