@@ -19,11 +19,12 @@ class Unit:
     name: str
     places: int
     spellings: tuple = ()
+    of_one: str = ""
 
     @property
     def step(self):
-        """One count, with its name: '0.1 °F'."""
-        return f"{shown(1, self.places)} {self.name}".rstrip()
+        """One count, with its name: '0.1 °F', '1 pulse'."""
+        return f"{shown(1, self.places)} {self.of_one or self.name}".rstrip()
 
     def text(self, count):
         """A count as people read it: '73.5 °F'."""

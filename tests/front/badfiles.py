@@ -53,7 +53,7 @@ CASES = (
     ("a zero too many", "prove", changed("= 63.5", "= 63.50"),
      "run 3, prover_temperature: 63.50 has more digits than the unit, 0.1 °F"),
     ("parts of a pulse", "prove", changed("17743", "17743.5"),
-     "run 1, pulses: 17743.5 has more digits than the unit, 1 pulses: expected a whole number, in pulses"),
+     "run 1, pulses: 17743.5 has more digits than the unit, 1 pulse: expected a whole number, in pulses"),
     ("too many by exponent", "prove", changed("8.23e-6", "8.235e-6"),
      "[every_run], prover_compressibility: 8.235e-6 has more digits than the unit, 0.00000001 per psi"),
     ("an immense exponent", "prove", changed("30_000_000", "3e9999"), "[prover], modulus: 3e9999 has too many digits"),
