@@ -4,6 +4,7 @@ import sys
 from dataclasses import dataclass
 
 from .fields import HOLDS
+from .jobfiles import plain
 from .program import Refused
 from .refusals import Explained
 
@@ -130,37 +131,37 @@ def do(step, program):
     return [told] * bool(told) + shown(*lines_of(program)), refused
 
 
-def session(source, name, program, out=sys.stdout):
+def session(source, name, program):
     """The steps of a source; a keyboard is asked again after a line that is no step, a file ends there."""
     keyboard = source.isatty()
     if keyboard:
-        print(STEPS, file=out)
+        print(STEPS)
     any_refused = False
-    for place, text in enumerate(prompted(source, out) if keyboard else source, 1):
+    for place, text in enumerate(prompted(source) if keyboard else source, 1):
         text = text.strip()
         if not text or text.startswith("#"):
             continue
         if text in ("quit", "exit"):
             break
         if not keyboard:
-            print(f"> {text}", file=out)
+            print(f"> {plain(text)}")
         try:
             told, refused = ([STEPS], False) if text == "help" else do(step_of(text), program)
         except BadStep as bad:
             if not keyboard:
-                print(f"{name}: line {place}: {bad}", file=sys.stderr)
+                print(f"{name}: line {place}: {plain(str(bad))}", file=sys.stderr)
                 return 2
-            told, refused = [str(bad)], False
+            told, refused = [plain(str(bad))], False
         any_refused = any_refused or refused
-        print("\n".join(told), file=out, flush=True)
+        print("\n".join(told), flush=True)
     return 1 if any_refused and not keyboard else 0
 
 
-def prompted(source, out):
+def prompted(source):
     while True:
-        print("book> ", end="", file=out, flush=True)
+        print("book> ", end="", flush=True)
         text = source.readline()
         if not text:
-            print(file=out)
+            print()
             return
         yield text

@@ -44,13 +44,13 @@ def is_current():
     return all(place.stat().st_mtime <= known for place in sources)
 
 
-def ensure(err=sys.stderr):
+def ensure():
     """Build the program unless it is current, telling the progress."""
     if is_current():
         return
     if not shutil.which("rt"):
         raise BuildFailed("the Rattle kit is needed: no rt on the path")
-    total = len(crates())
+    total, err = len(crates()), sys.stderr
     first = "first use: " if not BINARY.is_file() else ""
     print(f"{first}proving {NAME} and what it stands on, {total} crates, some minutes", file=err, flush=True)
     process = subprocess.Popen(
@@ -64,19 +64,15 @@ def ensure(err=sys.stderr):
 
 def watch(process, total, err):
     """What rt printed; each crate proved is told as it comes."""
-    printed, done = [], 0
-    ticker = Ticker(total, "crates proved", err) if err.isatty() else None
+    printed, ticker = [], Ticker(total, "crates proved", err)
     try:
         for line in process.stdout:
             printed.append(line.rstrip())
             words = line.split()
             if len(words) >= 3 and words[0] == "rt:" and words[2] == "proved":
-                done += 1
-                if ticker:
-                    ticker.done = done
-                else:
-                    print(f"  {done} of {total}: {words[1]} proved", file=err, flush=True)
+                ticker.done += 1
+                if not ticker.shows:
+                    print(f"  {ticker.done} of {total}: {words[1]} proved", file=err, flush=True)
     finally:
-        if ticker:
-            ticker.end()
+        ticker.end()
     return printed

@@ -64,8 +64,7 @@ def main(words=None):
         stream.reconfigure(errors="replace")
     options = parser().parse_args(words)
     try:
-        build.ensure()
-        with Program() as program:
+        with Program(build.ensure) as program:
             return options.do(options, program)
     except BadFile as told:
         print(told, file=sys.stderr)

@@ -32,7 +32,7 @@ PASS_COLUMNS = (
 )
 KEY = (
     "Adjusted = certified + scale reading, CCTS = measure CTS / prover CTS, drawn = adjusted x CTDW x CCTS.",
-    "Volume of a pass = sum of its fills / (CPS x CPL), water's F 0.00000320 per psi.",
+    f"Volume of a pass = sum of its fills / (CPS x CPL), water's F {fields.PER_PSI.text(fields.WATER)}.",
 )
 
 

@@ -1,7 +1,7 @@
 """What of a job a refusal is about: the record, the field, its value and its range. Found by comparing with the
 table of ranges, or by asking the line program; nothing is worked out here."""
 
-from . import fields
+from . import fields, figures
 from .program import Refused, hexed
 from .records import FILL_LAYOUT, RUN_LAYOUT
 from .refusals import Explained
@@ -69,9 +69,7 @@ def of_proving(job, refusal, program):
             )
             return [f"{at}{fields.RUN_FACTOR.label} is {given}, range {fields.RUN_FACTOR.range}"]
         case 9:
-            settings = (*job.prover.words, job.k_factor)
-            factors = [program.ask("run", *settings, hexed(each.record))[-1] for each in job.runs]
-            told = " ".join(shown(int(factor), 4) for factor in factors)
+            told = " ".join(shown(own["factor"], 4) for own in figures.of_runs(job, program))
             limit = fields.LIMIT.text(job.limit)
             return [f"run factors {told}: no five in a row lie within {limit} of the smallest"]
     return []

@@ -71,6 +71,8 @@ LIMIT = Field("repeatability_limit", "repeatability limit", TEN_THOUSANDTH, 1, 1
 # 01: 'House limit is 5'; a water draw's is always 2.
 HOUSE_LIMIT = 5
 DRAW_LIMIT = 2
+# 01: 'For water F is 320'.
+WATER = 320
 
 RUN = named(
     Field("pulses", "pulses", PULSE, 1, 100_000_000, "I"),

@@ -72,14 +72,13 @@ def of_passes(job, program):
     unpressed = b"".join(FILL_LAYOUT.pack({**fill.counts, "pressure": 0}) for fill in job.fills)
     _, *sums = program.numbers("passes", *settings, hexed(unpressed))
     pressures = {fill.counts["pass"]: fill.counts["pressure"] for fill in job.fills}
-    water = 320
     return [
         {
             "pass": number,
             "pressure": pressure,
             "sum": total,
             "cps": program.numbers("cps", pressure, *pipe, 6)[0],
-            "cpl": program.numbers("cpl", pressure, water, 6)[0],
+            "cpl": program.numbers("cpl", pressure, fields.WATER, 6)[0],
             "volume": volume,
         }
         for (number, pressure), total, volume in zip(pressures.items(), sums, volumes)

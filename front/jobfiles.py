@@ -16,8 +16,13 @@ class BadFile(Exception):
     """A job file that cannot be used: which file, which key, what was expected."""
 
     def __init__(self, path, place, told):
-        super().__init__(f"{path}: {place + ': ' if place else ''}{told}")
-        self.path, self.place, self.told = path, place, told
+        self.words = plain(f"{place}: {told}" if place else told)
+        super().__init__(f"{path}: {self.words}")
+
+
+def plain(text):
+    """A text out of a file as it may go to a terminal: a control character could do anything there."""
+    return "".join(letter if letter.isprintable() else "?" for letter in text)
 
 
 def load(path):

@@ -1,6 +1,6 @@
 """The kinds of job: what a file of each kind holds, and what of it the line program is given."""
 
-from dataclasses import dataclass, field
+from dataclasses import dataclass
 
 from . import fields
 from .jobfiles import BadFile, Table, load
@@ -54,7 +54,7 @@ class Proving:
     prover: Prover
     k_factor: int
     limit: int
-    runs: list = field(default_factory=list)
+    runs: list
     kind = "prove"
 
     @property
@@ -187,6 +187,5 @@ def read(path, wanted=None):
     if wanted and kinds and wanted not in kinds:
         raise BadFile(path, "", f"is a job of the kind {kinds[0]}: try ./endakuro {kinds[0]} {path}")
     if not wanted and not kinds:
-        expected = "expected [[run]], [[fill]], [ticket] or [live]"
-        raise BadFile(path, "", f"holds no job: {expected}")
+        raise BadFile(path, "", "holds no job: expected [[run]], [[fill]], [ticket] or [live]")
     return READERS[wanted or kinds[0]](Table(path, "", values))

@@ -26,22 +26,27 @@ class Refused(Exception):
 
 
 class Program:
-    """Use as a context: the process ends with it."""
+    """Use as a context: the process ends with it. It starts with the first line, after `prepare` has built it, so that
+    a bad file is told without either."""
 
-    def __init__(self, command=(str(RUNNER),)):
-        self.command = command
+    def __init__(self, prepare=lambda: None):
+        self.prepare, self.process = prepare, None
 
     def __enter__(self):
-        # A session of its own: Ctrl-C is for the front end, which ends the program when it has tidied up.
-        try:
-            self.process = subprocess.Popen(
-                self.command, stdin=subprocess.PIPE, stdout=subprocess.PIPE, start_new_session=True
-            )
-        except OSError as fault:
-            raise ProgramFailed(f"{self.command[0]} does not start: {fault.strerror}") from fault
         return self
 
+    def start(self):
+        self.prepare()
+        # A session of its own: Ctrl-C is for the front end, which ends the program when it has tidied up.
+        pipes = {"stdin": subprocess.PIPE, "stdout": subprocess.PIPE}
+        try:
+            self.process = subprocess.Popen([str(RUNNER)], start_new_session=True, **pipes)
+        except OSError as fault:
+            raise ProgramFailed(f"{RUNNER} does not start: {fault.strerror}") from fault
+
     def __exit__(self, *_):
+        if not self.process:
+            return
         try:
             self.process.stdin.close()
         except BrokenPipeError:
@@ -52,6 +57,8 @@ class Program:
     def answer(self, *words):
         """The answer's words to a line."""
         line = " ".join(str(word) for word in words)
+        if not self.process:
+            self.start()
         try:
             self.process.stdin.write(line.encode() + b"\n")
             self.process.stdin.flush()

@@ -4,6 +4,7 @@ import csv
 import signal
 import sys
 from pathlib import Path
+from typing import NamedTuple
 
 from . import faults, figures, jobs
 from .jobfiles import BadFile
@@ -13,11 +14,24 @@ from .short_pages import live_words
 from .ticker import Ticker
 from .units import shown
 
-COLUMNS = (
-    "file", "job", "outcome", "result", "unit", "first used", "of", "report record", "refusal", "at record", "words",
-)  # fmt: skip
 ACCEPTED, REFUSED, BAD = "accepted", "refused", "bad file"
 STOPPED = 130
+
+
+class Row(NamedTuple):
+    """A job's row of the CSV; what a job has not is left empty."""
+
+    file: str
+    job: str
+    outcome: str
+    result: str = ""
+    unit: str = ""
+    first_used: int | str = ""
+    out_of: int | str = ""
+    report_record: str = ""
+    refusal: int | str = ""
+    at_record: int | str = ""
+    words: str = ""
 
 
 def of_prove(job, program):
@@ -27,32 +41,32 @@ def of_prove(job, program):
 
 def of_draw(job, program):
     _, barrels, first = figures.draw(job, program)
-    return shown(barrels, 4, False), "bbl base volume", first, job.fills[-1].counts["pass"], ""
+    return shown(barrels, 4, False), "bbl base volume", first, job.fills[-1].counts["pass"]
 
 
 def of_ticket(job, program):
-    return shown(figures.ticket(job, program)["net"], 2, False), "bbl net", "", "", ""
+    return shown(figures.ticket(job, program)["net"], 2, False), "bbl net"
 
 
 def of_live(job, program):
-    return live_words(figures.live(job, program)), "", "", "", ""
+    return (live_words(figures.live(job, program)),)
 
 
 RESULTS = {"prove": of_prove, "draw": of_draw, "ticket": of_ticket, "live": of_live}
 
 
 def worked(path, program):
-    """A job's row, without its file."""
+    """A job's row. Nothing out of a file or its name becomes a formula of the spreadsheet that opens it."""
+    name = text(path.name)
     try:
         job = jobs.read(str(path))
     except BadFile as bad:
-        told = f"{bad.place}: {bad.told}" if bad.place else bad.told
-        return ["", BAD, *[""] * 7, told]
+        return Row(name, "", BAD, words=text(bad.words))
     try:
-        return [job.kind, ACCEPTED, *RESULTS[job.kind](job, program), "", "", ""]
+        return Row(name, job.kind, ACCEPTED, *RESULTS[job.kind](job, program))
     except Refused as refused:
         told = faults.explain(job, refused.refusal, program)
-        return [job.kind, REFUSED, *[""] * 5, told.number, told.record, told.line]
+        return Row(name, job.kind, REFUSED, refusal=told.number, at_record=told.record, words=told.line)
 
 
 class Stop:
@@ -73,31 +87,21 @@ class Stop:
             signal.signal(each, handler)
 
 
-def rework(folder, out, program, err=sys.stderr):
-    """The exit status: 0 all accepted, 1 some refused, 2 some files bad, 130 stopped by Ctrl-C."""
+def paths_of(folder):
     if not Path(folder).is_dir():
         raise BadFile(folder, "", "is not a folder: expected one that holds job files")
     paths = sorted(Path(folder).glob("*.toml"))
     if not paths:
         raise BadFile(folder, "", "holds no job file: expected *.toml")
-    counts = {ACCEPTED: 0, REFUSED: 0, BAD: 0}
-    ticker = Ticker(len(paths), "jobs", err) if err.isatty() else None
-    with open(out, "w", newline="", encoding="utf-8") as file, Stop() as stop:
-        rows = csv.writer(file)
-        rows.writerow(COLUMNS)
-        for path in paths:
-            if stop.asked:
-                break
-            row = worked(path, program)
-            rows.writerow([text(path.name), *row[:-1], text(row[-1])])
-            file.flush()
-            counts[row[1]] += 1
-            if row[1] != ACCEPTED:
-                tell(f"{path}: {row[-1]}", ticker)
-            if ticker:
-                ticker.done += 1
-    if ticker:
-        ticker.end()
+    return paths
+
+
+def rework(folder, out, program):
+    """The exit status: 0 all accepted, 1 some refused, 2 some files bad, 130 stopped by Ctrl-C."""
+    paths = paths_of(folder)
+    # With a byte order mark, as worksheets have it.
+    with open(out, "w", newline="", encoding="utf-8-sig") as file, Stop() as stop:
+        counts = work(paths, file, stop, program, Ticker(len(paths), "jobs", sys.stderr))
     done = sum(counts.values())
     told = ", ".join(f"{count} {outcome}" for outcome, count in counts.items())
     stopped = f"stopped after {done} of {len(paths)} jobs" if stop.asked else f"{done} jobs"
@@ -107,8 +111,22 @@ def rework(folder, out, program, err=sys.stderr):
     return 2 if counts[BAD] else 1 if counts[REFUSED] else 0
 
 
-def tell(line, ticker):
-    """A line above the bar, where there is one."""
-    if ticker:
-        ticker.clear()
-    print(line, flush=True)
+def work(paths, file, stop, program, ticker):
+    """The rows, each written as soon as it is known; how many jobs came to what."""
+    counts = {ACCEPTED: 0, REFUSED: 0, BAD: 0}
+    rows = csv.writer(file)
+    rows.writerow(name.replace("_", " ") for name in Row._fields)
+    try:
+        for path in paths:
+            if stop.asked:
+                break
+            row = worked(path, program)
+            rows.writerow(row)
+            file.flush()
+            counts[row.outcome] += 1
+            if row.words:
+                ticker.say(f"{path}: {row.words}")
+            ticker.done += 1
+    finally:
+        ticker.end()
+    return counts

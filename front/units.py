@@ -5,7 +5,7 @@ from dataclasses import dataclass
 
 # Longer than any figure that the line program takes, short enough that no exponent fills the memory.
 MOST_DIGITS = 40
-WRITTEN = re.compile(r"([+-]?)(\d+)(?:\.(\d+))?(?:[eE]([+-]?\d{1,4}))?")
+WRITTEN = re.compile(r"([+-]?)(\d+)(?:\.(\d+))?(?:[eE]([+-]?\d{1,9}))?")
 
 
 class Inexact(ValueError):

@@ -1,13 +1,9 @@
 """Bad files of every kind: file, key and what was expected, and exit status 2."""
 
-import contextlib
-import io
 import tempfile
 from pathlib import Path
 
-from harness import ROOT, Tally, run
-
-from front import cli
+from harness import ROOT, Tally, called, run
 
 GOOD = (ROOT / "examples" / "figure-5.toml").read_text()
 DRAW = (ROOT / "examples" / "water-draw.toml").read_text()
@@ -57,6 +53,9 @@ CASES = (
     ("too many by exponent", "prove", changed("8.23e-6", "8.235e-6"),
      "[every_run], prover_compressibility: 8.235e-6 has more digits than the unit, 0.00000001 per psi"),
     ("an immense exponent", "prove", changed("30_000_000", "3e9999"), "[prover], modulus: 3e9999 has too many digits"),
+    ("a more immense one", "prove", changed("30_000_000", "3e99999999"), "[prover], modulus: 3e99999999 has too many digits"),
+    ("a key with a control character", "prove", changed("[meter]", '[meter]\n"a\\u001b[2J" = 1'),
+     "[meter], a?[2J: unknown key: expected one of k_factor"),
     ("an immense number", "prove", changed("30_000_000", "9" * 60), "[prover], modulus: has too many digits"),
     ("beyond Python", "prove", changed("30_000_000", "9" * 6000), "is not TOML: "),
     ("beyond its place", "prove", changed("= 63.5", "= 4000.0"),
@@ -105,21 +104,13 @@ CASES = (
 )  # fmt: skip
 
 
-def told(command, path):
-    """The exit status and complaint of a command, without a process of its own for each."""
-    out, err = (io.TextIOWrapper(io.BytesIO(), encoding="utf-8", write_through=True) for _ in range(2))
-    with contextlib.redirect_stdout(out), contextlib.redirect_stderr(err):
-        status = cli.main([command, str(path)])
-    return status, *(stream.buffer.getvalue().decode() for stream in (out, err))
-
-
 def test():
     tally = Tally("bad files")
     with tempfile.TemporaryDirectory() as folder:
         path = Path(folder) / "job.toml"
         for name, command, content, expected in CASES:
             path.write_bytes(content if isinstance(content, bytes) else content.encode())
-            status, out, err = told(command, path)
+            status, out, err = called(command, path)
             tally.same((status, out), (2, ""), f"{name}: status and page")
             tally.check(err.startswith(f"{path}: {expected}"), f"{name}: expected {expected!r}, found {err!r}")
         places = (("prove", Path(folder) / "none.toml", "No such file"), ("prove", folder, "Is a directory"))

@@ -64,6 +64,8 @@ def run_plain(command, env):
 
 
 def first_use(tally, fresh):
+    status, _, err = run_plain([*fresh.command[:-1], "/nowhere/job.toml"], fresh.env)
+    tally.same((status, fresh.builds), (2, 0), f"a bad file is told before anything is built: {err!r}")
     total = len(build.crates())
     status, out, err = fresh.run()
     tally.same((status, fresh.builds), (0, 1), "first use: status and builds")

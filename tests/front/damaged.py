@@ -10,7 +10,7 @@ from harness import ROOT, Tally
 from front import rework
 from front.program import Program
 
-FILES = 2500
+FILES = 1200
 NUMBERS = (
     "0", "1", "-1", "0.00001", "1e5", "5.5", "65535", "65536", "4294967295", "4294967296", "32767", "32768", "-32769",
     "255", "256", "100000000", "1e-8", "1e400", "nan", "-inf", "true", "{}", "[]", '"73.5 F"', '"7fc00000"', "9" * 30,
@@ -49,14 +49,14 @@ def test():
                 text = damaged(text, rng)
             path.write_text(text)
             try:
-                _, outcome, *_, refusal, _, words = rework.worked(path, program)
+                row = rework.worked(path, program)
             except Exception as fault:
                 tally.check(False, f"file {number}: {type(fault).__name__}: {fault}\n{text}")
                 break
-            outcomes[outcome] = outcomes.get(outcome, 0) + 1
-            explained = not words if outcome == rework.ACCEPTED else bool(words)
-            if outcome == rework.REFUSED:
-                explained = words.startswith(f"refused {refusal}: ") and "; " in words
-            tally.check(explained, f"file {number}: {outcome}, {words!r}")
+            outcomes[row.outcome] = outcomes.get(row.outcome, 0) + 1
+            explained = bool(row.words) == (row.outcome != rework.ACCEPTED)
+            if row.outcome == rework.REFUSED:
+                explained = row.words.startswith(f"refused {row.refusal}: ") and "; " in row.words
+            tally.check(explained, f"file {number}: {row.outcome}, {row.words!r}")
     tally.same(set(outcomes), {rework.ACCEPTED, rework.REFUSED, rework.BAD}, "outcomes met")
     return tally

@@ -1,6 +1,6 @@
 """Every file of examples/: its exit status, its figures, each refusal's words."""
 
-from harness import ROOT, Tally, run
+from harness import ROOT, Tally, called, run
 
 FOLDER = ROOT / "examples"
 
@@ -82,7 +82,7 @@ def refused(tally):
         command, number = path.name.split("-")[:2]
         given.setdefault(command, set()).add(int(number))
         words = RECORD_WORDS.get(path.name) or path.read_text().splitlines()[0].removeprefix("# refused: ")
-        status, out, err = run(command, path)
+        status, out, err = called(command, path)
         tally.same(status, 1, f"{path.name}: status")
         head = f"refused {int(number)}: {WORDS[int(number)]}"
         if command == "book":

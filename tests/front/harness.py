@@ -1,5 +1,7 @@
 """Counting what is checked, and running the front end as people do."""
 
+import contextlib
+import io
 import os
 import pty
 import select
@@ -39,6 +41,16 @@ def run(*words, given="", folder="/", env=None):
         [str(LAUNCHER), *map(str, words)], input=given, capture_output=True, text=True, cwd=folder, env=env, timeout=120
     )
     return done.returncode, done.stdout, done.stderr
+
+
+def called(*words):
+    """The same without a process of its own, which is quicker where there are many."""
+    from front import cli
+
+    out, err = (io.TextIOWrapper(io.BytesIO(), encoding="utf-8", write_through=True) for _ in range(2))
+    with contextlib.redirect_stdout(out), contextlib.redirect_stderr(err):
+        status = cli.main([str(word) for word in words])
+    return status, *(stream.buffer.getvalue().decode() for stream in (out, err))
 
 
 def at_terminal(command, typed="", seconds=60, folder="/", env=None):

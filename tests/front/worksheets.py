@@ -12,7 +12,7 @@ from front import draw_worksheet, figures, jobs, ticket_worksheet, worksheet
 from front.program import Program, Refused
 from front.sheet import FIRST_COLUMN
 
-DAYS, HALVES, DRAWS, TICKETS = 160, 100, 30, 40
+DAYS, HALVES, DRAWS, TICKETS = 150, 110, 20, 24
 
 
 def outcome_of(asked, job, program):
