@@ -6,7 +6,7 @@ import sys
 
 from . import build, commands, helps
 from .jobfiles import BadFile
-from .program import Program, ProgramFailed
+from .program import Program, ProgramFailed, Refused
 
 BAD_FILE, FAILED, STOPPED = 2, 3, 130
 
@@ -69,7 +69,8 @@ def main(words=None):
     except BadFile as told:
         print(told, file=sys.stderr)
         return BAD_FILE
-    except (ProgramFailed, build.BuildFailed) as told:
+    except (ProgramFailed, Refused, build.BuildFailed) as told:
+        # A refusal that no command expects is a fault of the front end, no answer to a job.
         print(told, file=sys.stderr)
         return FAILED
     except BrokenPipeError:
