@@ -115,5 +115,11 @@ LIVE = named(
     Field("pressure", "pressure", PSI, 0, 1500, "H"),
 )
 
+# What a job file may say in words, and how the page names it.
+HEADING = {
+    "title": "Title", "report": "Report no.", "company": "Company", "station": "Station", "meter": "Meter",
+    "liquid": "Liquid", "batch": "Batch", "operator": "Operator", "date": "Date and time", "note": "Note",
+}  # fmt: skip
+
 RUNS, FILLS, PASSES = (5, 20), (3, 60), (3, 20)
 GROUP_OF_RUNS, GROUP_OF_PASSES = 5, 3

@@ -2,7 +2,6 @@
 
 from . import book as books
 from . import fields
-from .jobs import HEADING
 
 ABOUT = """\
 Meter proving from job files. Every figure shown comes from the proved line program, which is
@@ -17,7 +16,7 @@ JOB_FILE = f"""\
 A job file is TOML. Numbers are in the units that people write and are taken exactly: more digits than
 the unit has is an error, never a rounding. A number may stand alone (73.5) or in quotes with its unit
 ("73.5 °F"). [heading], never needed, takes texts for the head of the page:
-{", ".join(HEADING)}."""
+{", ".join(fields.HEADING)}."""
 
 WIDTH = 26
 

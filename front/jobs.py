@@ -7,7 +7,6 @@ from .jobfiles import BadFile, Table, load
 from .records import FILL_LAYOUT, LENGTH, RUN_LAYOUT
 from .singles import single
 
-HEADING = ("title", "report", "company", "station", "meter", "liquid", "batch", "operator", "date", "note")
 # Far more than any job may have; a line of the program holds them, so that the program refuses the job itself.
 MOST_ENTRIES = 4096
 # What tells the kind of a job: the table that no other kind has.
@@ -133,7 +132,7 @@ def entries_of(top, key, every, known, layout):
 
 def heading_of(top):
     table = top.table("heading", needed=False)
-    table.only(HEADING)
+    table.only(list(fields.HEADING))
     texts = {key: table.text(key) for key in table.values}
     for key, words in texts.items():
         # A page and a picture hold lines of text; a control character could do anything to a terminal.

@@ -1,14 +1,9 @@
 """The proving report: a page that a measurement technician signs."""
 
 from . import fields, page
-from .fields import BARREL, FACTOR, LIMIT
+from .fields import BARREL, FACTOR, HEADING, LIMIT
 from .page import pairs, section, table
 from .units import shown
-
-HEADING = {
-    "title": "Title", "report": "Report no.", "company": "Company", "station": "Station", "meter": "Meter",
-    "liquid": "Liquid", "batch": "Batch", "operator": "Operator", "date": "Date and time", "note": "Note",
-}  # fmt: skip
 
 # Columns by group: a heading, a unit, and what of a run it shows, a count of its record or a figure.
 GROUPS = (
@@ -115,8 +110,8 @@ def repeatability(job, outcome):
     return pairs(
         [
             ("Accepted runs", used),
-            ("Largest run factor", f"{shown(largest, 4)}, run {at[largest]}"),
-            ("Smallest run factor", f"{shown(smallest, 4)}, run {at[smallest]}"),
+            ("Largest run factor", f"{shown(largest, 4)}, first in run {at[largest]}"),
+            ("Smallest run factor", f"{shown(smallest, 4)}, first in run {at[smallest]}"),
             ("Spread", f"within {LIMIT.text(outcome.within)} of the smallest; limit {LIMIT.text(job.limit)}: met"),
         ]
     )

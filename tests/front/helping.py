@@ -3,7 +3,6 @@
 from harness import Tally, run
 
 from front import fields
-from front.jobs import HEADING
 
 PROVER = {**fields.PIPE, **fields.named(fields.COEFFICIENT)}
 KEYS = {
@@ -40,7 +39,7 @@ def test():
         for word in (*WORDS[command], "exit status: 0 accepted; 1 refused"):
             tally.holds(text, word, command)
         if known:
-            tally.holds(text, ", ".join(HEADING), command)
+            tally.holds(text, ", ".join(fields.HEADING), command)
         for key, field in known.items():
             lines = [line for line in text.splitlines() if line.split()[:1] == [key]]
             tally.check(any(field.range in line for line in lines), f"{command}: {key} without its range {field.range}")
