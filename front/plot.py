@@ -2,7 +2,6 @@
 
 import math
 import re
-import textwrap
 from xml.sax.saxutils import escape
 
 from .fields import LIMIT
@@ -12,6 +11,7 @@ WIDTH, HEIGHT = 900, 520
 LEFT, RIGHT, TOP, BOTTOM = 90, 190, 80, 70
 INK, QUIET, ACCEPTED, BAND, OTHER = "#1f2933", "#9aa5b1", "#0b6e4f", "#cfe8dc", "#ffffff"
 FEWEST_STEPS = 6
+LONGEST_NAME = 66
 
 
 def words(text):
@@ -32,7 +32,7 @@ class Frame:
 
     def __init__(self, count, low, high):
         self.count = count
-        spare = max(FEWEST_STEPS - (high - low), 2) // 2
+        spare = max((FEWEST_STEPS - (high - low)) // 2, (high - low) // 12, 1)
         self.low, self.high = low - spare, high + spare
 
     def x(self, run):
@@ -115,6 +115,12 @@ def legend(job, outcome):
     return drawn
 
 
+def headline(job):
+    """The job's title, or its file, cut to what the picture holds."""
+    name = job.heading.get("title", job.path)
+    return name if len(name) <= LONGEST_NAME else name[:LONGEST_NAME] + " .."
+
+
 def summary(job, outcome):
     if not outcome:
         return f"no five in a row within {LIMIT.text(job.limit)} of the smallest"
@@ -128,7 +134,7 @@ def draw(job, figures, outcome):
     banded, runs = (outcome.five, outcome.accepted) if outcome else (factors, range(1, len(factors) + 1))
     top = max(*factors, math.ceil(band_top(min(banded), job.limit)))
     frame = Frame(len(factors), min(factors), top)
-    name, told = textwrap.shorten(job.heading.get("title", job.path), 70, placeholder=" .."), summary(job, outcome)
+    name, told = headline(job), summary(job, outcome)
     parts = [
         f'<svg xmlns="http://www.w3.org/2000/svg" width="{WIDTH}" height="{HEIGHT}" viewBox="0 0 {WIDTH} {HEIGHT}"'
         f' font-family="DejaVu Sans, Arial, sans-serif" fill="{INK}" role="img">',

@@ -3,6 +3,7 @@
 import importlib
 import sys
 import time
+import traceback
 from pathlib import Path
 
 HERE = Path(__file__).resolve().parent
@@ -17,7 +18,14 @@ def main():
     failed = 0
     for name in sys.argv[1:] or NAMES:
         began = time.monotonic()
-        tally = importlib.import_module(name).test()
+        try:
+            tally = importlib.import_module(name).test()
+        except Exception:
+            # The other tests still have something to say.
+            traceback.print_exc()
+            print(f"front {name}: stopped", flush=True)
+            failed += 1
+            continue
         seconds = int(time.monotonic() - began)
         print(f"front {tally.name}: {tally.checked} checked, {tally.wrong} wrong, {seconds} s", flush=True)
         failed += bool(tally.wrong or not tally.checked)

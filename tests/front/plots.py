@@ -12,6 +12,7 @@ from front.program import Program, Refused
 from front.units import shown
 
 JOBS = 120
+TITLES = ("Plain", '5 < 6 & \\"7\\" > 2, ]]> é', "x" * 200)
 SVG = "{http://www.w3.org/2000/svg}"
 
 
@@ -45,6 +46,8 @@ def drawn(tally, name, job, factors, outcome, text):
     texts = [text.text for text in tree.iter(f"{SVG}text")]
     for wanted in ("Run", "Run factor", f"limit, {shown(job.limit, 2)} %"):
         tally.check(wanted in texts, f"{name}: no label {wanted!r}")
+    name_drawn = job.heading["title"][:66]
+    tally.check(texts[0].startswith(name_drawn) and len(texts[0]) <= 70, f"{name}: title {texts[0]!r}")
     factor = [f"meter factor {shown(outcome.factor, 4)}"] if outcome else []
     tally.same([text for text in texts if text.startswith("meter factor")], factor, name)
 
@@ -54,7 +57,7 @@ def test():
     with tempfile.TemporaryDirectory() as folder, Program() as program:
         path = Path(folder) / "job.toml"
         for number, given in enumerate(jobtexts.days(JOBS, 5)):
-            heading = '[heading]\ntitle = "5 < 6 & \\"7\\" > 2, ]]> é"\n' if number % 2 else ""
+            heading = f'[heading]\ntitle = "{TITLES[number % len(TITLES)]}"\n'
             path.write_text(jobtexts.proving_text(given) + heading)
             job = jobs.read(str(path), "prove")
             try:
