@@ -29,7 +29,8 @@ def load(path):
     """The file's tables."""
     try:
         with open(path, "rb") as file:
-            return tomllib.load(file, parse_float=Written)
+            # Some editors put a byte order mark before a text.
+            return tomllib.loads(file.read().decode("utf-8-sig"), parse_float=Written)
     except OSError as fault:
         raise BadFile(path, "", f"cannot be read: {fault.strerror}") from fault
     except UnicodeDecodeError as fault:

@@ -42,6 +42,10 @@ def test():
             sheet = Path(folder) / "sheet.csv"
             tally.same(run(command, EXAMPLES / example, "--worksheet", sheet)[0], 0, f"{command} --worksheet")
             tally.holds(sheet.read_text(), "=ROUND(", f"{command} --worksheet")
+    with tempfile.TemporaryDirectory() as folder:
+        marked = Path(folder) / "marked.toml"
+        marked.write_bytes(b"\xef\xbb\xbf" + (EXAMPLES / "ticket.toml").read_bytes().replace(b"\n", b"\r\n"))
+        tally.same(run("ticket", marked)[0], 0, "a file as a Windows editor writes it")
     status, _, err = run("prove", EXAMPLES / "second-five.toml", "--plot", "/nowhere/plot.svg")
     tally.same((status, err), (3, "/nowhere/plot.svg: cannot be written: No such file or directory\n"), "no such place")
     return tally
