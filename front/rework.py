@@ -36,7 +36,8 @@ class Row(NamedTuple):
 
 def of_prove(job, program):
     outcome = figures.prove(job, program)
-    return shown(outcome.factor, 4, False), "meter factor", outcome.first, outcome.runs, outcome.record.hex()
+    # Bytes set apart: a spreadsheet would take 64 digits in a row for one number.
+    return shown(outcome.factor, 4, False), "meter factor", outcome.first, outcome.runs, outcome.record.hex(" ")
 
 
 def of_draw(job, program):

@@ -48,7 +48,7 @@ def mixed(tally, folder):
     ):
         tally.same(results[name], expected, name)
     record = next(row["report record"] for row in rows if row["file"] == "second-five.toml")
-    tally.same(record, (EXAMPLES / "report-7.record").read_bytes().hex(), "report record")
+    tally.same(record, (EXAMPLES / "report-7.record").read_bytes().hex(" "), "report record")
     counts = {kind: sum(row["outcome"] == kind for row in rows) for kind in ("accepted", "refused", "bad file")}
     told = ", ".join(f"{count} {kind}" for kind, count in counts.items())
     tally.same(out.splitlines()[-1], f"{len(files)} jobs: {told}; results in {folder / 'out.csv'}", "summary")
