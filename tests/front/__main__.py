@@ -15,6 +15,8 @@ NAMES = (
 
 
 def main():
+    # Before any test: what it tells of its progress is no part of a command's output.
+    importlib.import_module("front.build").ensure()
     failed = 0
     for name in sys.argv[1:] or NAMES:
         began = time.monotonic()

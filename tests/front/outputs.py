@@ -1,9 +1,10 @@
 """What prove writes besides its page: the record, the worksheet, the plot; nothing more than the record on refusal 9."""
 
+import subprocess
 import tempfile
 from pathlib import Path
 
-from harness import ROOT, Tally, run
+from harness import LAUNCHER, ROOT, Tally, run
 
 EXAMPLES = ROOT / "examples"
 NAMES = ("record", "worksheet", "plot")
@@ -46,6 +47,10 @@ def test():
         marked = Path(folder) / "marked.toml"
         marked.write_bytes(b"\xef\xbb\xbf" + (EXAMPLES / "ticket.toml").read_bytes().replace(b"\n", b"\r\n"))
         tally.same(run("ticket", marked)[0], 0, "a file as a Windows editor writes it")
+        link = Path(folder) / "link"
+        link.symlink_to(LAUNCHER)
+        done = subprocess.run([link, "ticket", marked.name], cwd=folder, capture_output=True, text=True)
+        tally.same((done.returncode, done.stderr), (0, ""), "through a link, from a folder of its own")
     status, _, err = run("prove", EXAMPLES / "second-five.toml", "--plot", "/nowhere/plot.svg")
     tally.same((status, err), (3, "/nowhere/plot.svg: cannot be written: No such file or directory\n"), "no such place")
     return tally
