@@ -1,0 +1,167 @@
+"""A session with the book of waiting requests: a step a line, and the four lines after each."""
+
+import sys
+from dataclasses import dataclass
+
+from .fields import HOLDS
+from .jobfiles import plain
+from .program import Refused
+from .refusals import Explained
+
+SHIPPERS, PLACES = 4, 16
+STEPS = """\
+request SHIPPER NUMBER    a request goes into its shipper's line, if it may
+withdraw SHIPPER NUMBER   it leaves that line
+take                      the prover takes the next request, going round the shippers
+empty                     a new book
+load LAST L0 L1 L2 L3     a book from outside: the shipper last served, and each shipper's waiting numbers
+                          in order, as 101,102 or - for none
+book                      the four lines
+help                      this list
+quit                      the end; so is the end of the input
+Shippers are 0 to 3, numbers 1 to 4294967295. A line that starts with # is a note."""
+
+
+class BadStep(Exception):
+    """A line that is no step; the text says what was expected."""
+
+
+def number(word, place, what):
+    least, most = HOLDS[place]
+    if not (word.isascii() and word.isdigit() and len(word) <= 10 and least <= int(word) <= most):
+        raise BadStep(f"{word}: expected {what}")
+    return int(word)
+
+
+def shipper(word):
+    return number(word, "B", "a shipper, 0 to 3")
+
+
+def request(word):
+    return number(word, "I", "a request number, 1 to 4294967295")
+
+
+def line_of(word):
+    """A shipper's waiting numbers, as one word."""
+    numbers = [request(each) for each in word.split(",")] if word != "-" else []
+    if len(numbers) > PLACES:
+        raise BadStep(f"expected at most {PLACES} numbers in a line")
+    return numbers
+
+
+@dataclass(frozen=True)
+class Step:
+    """What the line program is asked, and how people say that it was done."""
+
+    words: tuple
+    told: str
+
+
+def step_of(text):
+    name, *operands = text.split()
+    wanted = {"request": 2, "withdraw": 2, "take": 0, "empty": 0, "load": 1 + SHIPPERS, "book": 0}
+    if name not in wanted:
+        raise BadStep(f"{name}: expected one of {', '.join(wanted)}, help or quit")
+    if len(operands) != wanted[name]:
+        expected = next(line for line in STEPS.splitlines() if line.startswith(name)).split("  ")[0]
+        raise BadStep(f"expected: {expected}")
+    if name in ("request", "withdraw"):
+        who, which = shipper(operands[0]), request(operands[1])
+        done = "goes in" if name == "request" else "is withdrawn"
+        return Step((name, who, which), f"request {which} of shipper {who} {done}")
+    if name == "load":
+        lines = [line_of(word) for word in operands[1:]]
+        last = number(operands[0], "B", "the shipper last served, 0 to 3")
+        places = [place for line in lines for place in line + [0] * (PLACES - len(line))]
+        return Step((name, last, *(len(line) for line in lines), *places), "the book is replaced by the one given")
+    told = {"take": "request {1} of shipper {0} is taken", "empty": "a new book", "book": ""}
+    return Step((name,), told[name])
+
+
+def lines_of(program):
+    """Each shipper's waiting numbers and the last served, or None where the book is not sound."""
+    try:
+        last, *rest = program.numbers("book")
+    except Refused:
+        return None, None
+    lines = []
+    for _ in range(SHIPPERS):
+        count, *rest = rest
+        lines.append(rest[:count])
+        rest = rest[count:]
+    return lines, last
+
+
+def shown(lines, last):
+    if lines is None:
+        return ["  the book is not sound"]
+    told = [f"  shipper {who}: {' '.join(map(str, waiting)) or '-'}" for who, waiting in enumerate(lines)]
+    return [*told, f"  last served: shipper {last}"]
+
+
+def about(number, words, lines):
+    """What of a step and of the book a refusal is about."""
+    who, which = (*words[1:], None, None)[:2]
+    match number:
+        case 20:
+            return "counts, places or the last served break the book's rules"
+        case 21:
+            return f"shipper is {who}, range 0 to 3"
+        case 22:
+            return f"request number is {which}, range 1 to 4,294,967,295"
+        case 23:
+            return f"request {which} waits in the line of shipper {who}"
+        case 24:
+            return f"shipper {who} has {len(lines[who])} waiting, range up to 8"
+        case 25:
+            return f"shipper {who} has {len(lines[who])} waiting, range up to 2 while the 8 shared places are used up"
+        case 26:
+            return f"request {which} does not wait in the line of shipper {who}"
+    return "no shipper has a request waiting"
+
+
+def do(step, program):
+    """One step: what to print, and whether it was refused."""
+    try:
+        values = program.ask(*step.words)
+        told, refused = step.told.format(*values), False
+    except Refused as fault:
+        number = fault.refusal.number
+        told, refused = Explained(number, 0, (about(number, step.words, lines_of(program)[0]),)).line, True
+    return [told] * bool(told) + shown(*lines_of(program)), refused
+
+
+def session(source, name, program):
+    """The steps of a source; a keyboard is asked again after a line that is no step, a file ends there."""
+    keyboard = source.isatty()
+    if keyboard:
+        print(STEPS)
+    any_refused = False
+    for place, text in enumerate(prompted(source) if keyboard else source, 1):
+        text = text.strip()
+        if not text or text.startswith("#"):
+            continue
+        if text in ("quit", "exit"):
+            break
+        if not keyboard:
+            print(f"> {plain(text)}")
+        try:
+            told, refused = ([STEPS], False) if text == "help" else do(step_of(text), program)
+        except BadStep as bad:
+            if not keyboard:
+                print(f"{name}: line {place}: {plain(str(bad))}", file=sys.stderr)
+                return 2
+            told, refused = [plain(str(bad))], False
+        any_refused = any_refused or refused
+        print("\n".join(told), flush=True)
+    return 1 if any_refused and not keyboard else 0
+
+
+def prompted(source):
+    while True:
+        print("book> ", end="", flush=True)
+        text = source.readline()
+        if not text:
+            print()
+            return
+        yield text

@@ -1,0 +1,133 @@
+"""What of a job a refusal is about: the record, the field, its value and its range. Found by comparing with the
+table of ranges, or by asking the line program; nothing is worked out here."""
+
+from . import fields, figures
+from .program import Refused, hexed
+from .records import FILL_LAYOUT, RUN_LAYOUT
+from .refusals import Explained
+from .units import shown
+
+
+def explain(job, refusal, program):
+    found = FINDERS[job.kind](job, refusal, program)
+    return Explained(refusal.number, refusal.record, tuple(found))
+
+
+def out_of_range(counts, known, at=""):
+    return [
+        f"{at}{field.label} is {field.text(counts[key])}, range {field.range}"
+        for key, field in known.items()
+        if not field.within(counts[key])
+    ]
+
+
+def of_prover(prover, base_judged):
+    counts = {**prover.pipe, "base_volume": prover.base, "coefficient": prover.coefficient}
+    known = dict(fields.PIPE)
+    if prover.coefficient is not None:
+        known = {"coefficient": fields.COEFFICIENT, **known}
+    if base_judged:
+        known["base_volume"] = fields.BASE_VOLUME
+    return out_of_range(counts, known)
+
+
+def of_unnamed_bytes(record, layout, at):
+    """The bytes that differ from those of a record made of the same fields."""
+    made = layout.pack(layout.unpack(record))
+    wrong = [place for place in range(len(record)) if record[place] != made[place]]
+    return [f"{at}byte {place} is {record[place]:02x}, range 00" for place in wrong]
+
+
+def of_count(what, count, ends):
+    return [f"{what}: {count}, range {ends[0]} to {ends[1]}"]
+
+
+def of_proving(job, refusal, program):
+    at = f"run {refusal.record}: "
+    run = job.runs[refusal.record - 1] if refusal.record else None
+    match refusal.number:
+        case 22:
+            return out_of_range({"request": job.request}, {"request": fields.REQUEST})
+        case 1:
+            return of_count("runs", len(job.runs), fields.RUNS)
+        case 3:
+            return of_prover(job.prover, True)
+        case 4:
+            counts = {"k_factor": job.k_factor, "repeatability_limit": job.limit}
+            return out_of_range(counts, fields.named(fields.K_FACTOR, fields.LIMIT))
+        case 5:
+            return out_of_range(run.counts, fields.RUN, at)
+        case 2:
+            return of_unnamed_bytes(run.record, RUN_LAYOUT, at)
+        case 7:
+            given = f"{fields.PULSE.text(run.counts['pulses'])} ÷ {fields.K_FACTOR.text(job.k_factor)}"
+            return [f"{at}{fields.INDICATED.label} is {given}, range {fields.INDICATED.range}"]
+        case 8:
+            given = (
+                f"that of {fields.PULSE.text(run.counts['pulses'])}, {fields.K_FACTOR.text(job.k_factor)}"
+                f" and a base volume of {fields.BASE_VOLUME.text(job.prover.base)}"
+            )
+            return [f"{at}{fields.RUN_FACTOR.label} is {given}, range {fields.RUN_FACTOR.range}"]
+        case 9:
+            told = " ".join(shown(own["factor"], 4) for own in figures.of_runs(job, program))
+            limit = fields.LIMIT.text(job.limit)
+            return [f"run factors {told}: no five in a row lie within {limit} of the smallest"]
+    return []
+
+
+def of_draw(job, refusal, program):
+    at = f"fill {refusal.record}: "
+    fill = job.fills[refusal.record - 1] if refusal.record else None
+    match refusal.number:
+        case 1:
+            few, many = fields.FILLS
+            if not few <= len(job.fills) <= many:
+                return of_count("fills", len(job.fills), fields.FILLS)
+            return of_count("passes", job.fills[-1].counts["pass"], fields.PASSES)
+        case 3:
+            return of_prover(job.prover, False)
+        case 5:
+            return out_of_range(fill.counts, fields.FILL, at)
+        case 2:
+            return of_unnamed_bytes(fill.record, FILL_LAYOUT, at)
+        case 6:
+            return [at + broken_pass(job.fills[: refusal.record])]
+        case 9:
+            _, *volumes = program.numbers("passes", *job.prover.words, hexed(job.records))
+            told = " ".join(shown(volume, 2) for volume in volumes)
+            limit = fields.LIMIT.text(fields.DRAW_LIMIT)
+            return [f"passes {told} in³: no three in a row lie within {limit} of the smallest"]
+    return []
+
+
+def broken_pass(fills):
+    """The last of these fills breaks the rule."""
+    own = fills[-1].counts
+    told = f"pass number is {own['pass']} at pressure {fields.PSI.text(own['pressure'])}"
+    if len(fills) == 1:
+        return f"{told}, range pass 1"
+    before = fills[-2].counts
+    earlier = f"pass {before['pass']} at {fields.PSI.text(before['pressure'])}"
+    return f"{told}, range the same as the fill before it ({earlier}) or the next pass"
+
+
+def of_ticket(job, refusal, program):
+    if refusal.number == 10:
+        return out_of_range(job.counts, fields.TICKET)
+    opening, closing = (fields.TICKET[key].text(job.counts[key]) for key in ("opening", "closing"))
+    return [f"closing reading is {closing}, range {opening} (the opening reading) or more"]
+
+
+def of_live(job, refusal, program):
+    """Temperature is judged first: it is at fault where it is refused beside a pressure of 0 too."""
+    try:
+        program.ask("live", job.singles["temperature"].bits, "00000000")
+        key = "pressure"
+    except Refused:
+        key = "temperature"
+    field, given = fields.LIVE[key], job.singles[key]
+    judged = f"range {field.range} to the nearest {field.unit.step}"
+    return [f"{field.label} is {given.text} (single {given.bits}), {judged}"]
+
+
+FINDERS = {"prove": of_proving, "draw": of_draw, "ticket": of_ticket, "live": of_live}

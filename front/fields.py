@@ -1,0 +1,125 @@
+"""The paper's table of units and ranges, a line a field: its key in a job file, its name, what its place holds."""
+
+from dataclasses import dataclass
+
+from .units import Unit
+
+DEGREE = Unit("°F", 1, ("°F", "F"))
+PSI = Unit("psi", 0, ("psi", "psig"))
+PER_DEGREE = Unit("per °F", 7, ("per °F", "/°F"))
+INCH = Unit("in", 3, ("in", "inch", '"'))
+PER_PSI = Unit("per psi", 8, ("per psi", "/psi"))
+FACTOR = Unit("", 4)
+FINE_FACTOR = Unit("", 6)
+BARREL = Unit("bbl", 4, ("bbl", "barrel", "barrels"))
+READING = Unit("bbl", 2, ("bbl", "barrel", "barrels"))
+CUBIC_INCH = Unit("in³", 2, ("in³", "in3"))
+PULSE = Unit("pulses", 0, ("pulses",), "pulse")
+PULSES_PER_BARREL = Unit("pulses/bbl", 3, ("pulses/bbl", "pulses per barrel"))
+TEN_THOUSANDTH = Unit("%", 2, ("%",))
+SEDIMENT_PERCENT = Unit("%", 3, ("%",))
+NUMBER = Unit("", 0)
+
+# What a place of a record or an operand of a line can hold, by the letters of Python's struct.
+HOLDS = {"B": (0, 2**8 - 1), "H": (0, 2**16 - 1), "I": (0, 2**32 - 1), "h": (-(2**15), 2**15 - 1)}
+
+
+@dataclass(frozen=True)
+class Field:
+    key: str
+    label: str
+    unit: Unit
+    low: int
+    high: int
+    place: str
+
+    def text(self, count):
+        return self.unit.text(count)
+
+    def within(self, count):
+        return self.low <= count <= self.high
+
+    def fits(self, count):
+        least, most = HOLDS[self.place]
+        return least <= count <= most
+
+    @property
+    def range(self):
+        return f"{self.unit.text(self.low).removesuffix(self.unit.name).rstrip()} to {self.unit.text(self.high)}"
+
+
+def named(*fields):
+    return {field.key: field for field in fields}
+
+
+METALS = ("mild carbon", "304 stainless", "316 stainless", "17-4 PH")
+# 01: 'mild carbon 186, 304 stainless 288, 316 stainless 265, 17-4 PH 180'.
+METAL_COEFFICIENTS = (186, 288, 265, 180)
+NO_METAL = 4
+
+COEFFICIENT = Field("coefficient", "certified cubical coefficient", PER_DEGREE, 100, 400, "H")
+BASE_VOLUME = Field("base_volume", "base volume", BARREL, 1, 100_000_000, "I")
+PIPE = named(
+    Field("inside_diameter", "inside diameter", INCH, 1000, 60000, "I"),
+    Field("wall_thickness", "wall thickness", INCH, 100, 3000, "I"),
+    Field("modulus", "modulus of elasticity E", PSI, 10_000_000, 40_000_000, "I"),
+)
+
+REQUEST = Field("request", "request number", NUMBER, 1, 2**32 - 1, "I")
+K_FACTOR = Field("k_factor", "K factor", PULSES_PER_BARREL, 1, 1_000_000_000, "I")
+LIMIT = Field("repeatability_limit", "repeatability limit", TEN_THOUSANDTH, 1, 100, "H")
+# 01: 'House limit is 5'; a water draw's is always 2.
+HOUSE_LIMIT = 5
+DRAW_LIMIT = 2
+# 01: 'For water F is 320'.
+WATER = 320
+
+RUN = named(
+    Field("pulses", "pulses", PULSE, 1, 100_000_000, "I"),
+    Field("prover_temperature", "prover temperature", DEGREE, -200, 2000, "h"),
+    Field("meter_temperature", "meter temperature", DEGREE, -200, 2000, "h"),
+    Field("prover_pressure", "prover pressure", PSI, 0, 1500, "H"),
+    Field("meter_pressure", "meter pressure", PSI, 0, 1500, "H"),
+    Field("prover_ctl", "prover CTL", FACTOR, 5000, 15000, "H"),
+    Field("meter_ctl", "meter CTL", FACTOR, 5000, 15000, "H"),
+    Field("prover_compressibility", "prover compressibility F", PER_PSI, 0, 10000, "H"),
+    Field("meter_compressibility", "meter compressibility F", PER_PSI, 0, 10000, "H"),
+)
+INDICATED = Field("", "indicated volume", BARREL, 1, 100_000_000, "I")
+RUN_FACTOR = Field("", "run factor", FACTOR, 8000, 12000, "H")
+
+FILL = named(
+    Field("certified_volume", "certified volume", CUBIC_INCH, 20_000, 100_000_000, "I"),
+    Field("scale_reading", "scale reading", CUBIC_INCH, -10000, 10000, "h"),
+    Field("prover_temperature", "prover temperature", DEGREE, 350, 1050, "h"),
+    Field("measure_temperature", "measure temperature", DEGREE, 321, 1050, "h"),
+    Field("measure_coefficient", "measure's cubical coefficient", PER_DEGREE, 100, 400, "H"),
+    Field("ctdw", "CTDW", FINE_FACTOR, 980_000, 1_020_000, "I"),
+    # 01: 'the pass byte has no range of its own'.
+    Field("pass", "pass number", NUMBER, 0, 255, "B"),
+    Field("pressure", "pressure", PSI, 0, 1500, "H"),
+)
+
+TICKET = named(
+    Field("opening", "opening reading", READING, 0, 99_999_999, "I"),
+    Field("closing", "closing reading", READING, 0, 99_999_999, "I"),
+    Field("meter_factor", "meter factor", FACTOR, 8000, 12000, "H"),
+    Field("ctl", "CTL", FACTOR, 5000, 15000, "H"),
+    Field("pressure", "pressure", PSI, 0, 1500, "H"),
+    Field("compressibility", "compressibility F", PER_PSI, 0, 10000, "H"),
+    Field("sediment_and_water", "sediment and water", SEDIMENT_PERCENT, 0, 100_000, "I"),
+)
+
+LIVE = named(
+    Field("temperature", "temperature", DEGREE, -200, 2000, "h"),
+    Field("pressure", "pressure", PSI, 0, 1500, "H"),
+)
+
+# What a job file may say in words, and how the page names it.
+HEADING = {
+    "title": "Title", "report": "Report no.", "company": "Company", "station": "Station", "meter": "Meter",
+    "liquid": "Liquid", "batch": "Batch", "operator": "Operator", "date": "Date and time", "note": "Note",
+}  # fmt: skip
+
+RUNS, FILLS, PASSES = (5, 20), (3, 60), (3, 20)
+GROUP_OF_RUNS, GROUP_OF_PASSES = 5, 3

@@ -1,0 +1,99 @@
+"""The texts of --help: what a command does, every key of its job file with its range, and the exit status."""
+
+from . import book as books
+from . import fields
+
+ABOUT = """\
+Meter proving from job files. Every figure shown comes from the proved line program, which is
+built on first use."""
+
+STATUS = """\
+exit status: 0 accepted; 1 refused: the paper's number in words, the record, the field with its value
+and range; 2 a bad file or command: the file, the key and what was expected; 3 the line program cannot
+be built or run, or an output cannot be written. examples/ has jobs of every kind and of every refusal."""
+
+JOB_FILE = f"""\
+A job file is TOML. Numbers are in the units that people write and are taken exactly: more digits than
+the unit has is an error, never a rounding. A number may stand alone (73.5) or in quotes with its unit
+("73.5 °F"). [heading], never needed, takes texts for the head of the page:
+{", ".join(fields.HEADING)}."""
+
+WIDTH = 26
+
+
+def row(key, words):
+    return f"  {key.ljust(WIDTH)}{words}"
+
+
+def keys(known):
+    return [row(field.key, f"{field.label}, {field.range}") for field in known.values()]
+
+
+def prover(base):
+    metals = [
+        f"{name} ({fields.PER_DEGREE.text(gc)})" for name, gc in zip(fields.METALS, fields.METAL_COEFFICIENTS)
+    ]
+    pairs = [", ".join(metals[at : at + 2]) for at in (0, 2)]
+    return [
+        "[prover]",
+        row("metal", pairs[0] + ","),
+        row("", pairs[1]),
+        row("coefficient", f"{fields.COEFFICIENT.label}, {fields.COEFFICIENT.range};"),
+        row("", "wins over the metal, one of both is needed"),
+        *keys(fields.PIPE),
+        *(keys(fields.named(fields.BASE_VOLUME)) if base else [row("base_volume", "may be given, is not used")]),
+    ]
+
+
+def entries(name, known):
+    return [
+        f"[[{name}]], one for each; [every_{name}] holds what all share, and a {name}'s own key wins",
+        *keys(known),
+        row("record", f'instead of all others: the 32 bytes of the {name}\'s record in hex, "40 0d 03 .."'),
+    ]
+
+
+def described(about, *parts):
+    """A command's text: what it does, the job file, its keys."""
+    return "\n".join([about, "", JOB_FILE, "", *(line for part in parts for line in part)])
+
+
+PROVE = described(
+    "Prints the proving report of a job by pipe prover: settings, a row a run, the accepted five\n"
+    "and their spread against the limit, the meter factor, the report record. A job in which no five\n"
+    "runs agree is refused, and its report, worksheet and plot show why.",
+    keys(fields.named(fields.REQUEST)),
+    [row("repeatability_limit", f"{fields.LIMIT.range}; {fields.LIMIT.text(fields.HOUSE_LIMIT)} where it is left out")],
+    prover(True),
+    ["[meter]", *keys(fields.named(fields.K_FACTOR))],
+    entries("run", fields.RUN),
+)
+DRAW = described(
+    "Prints the report of a unidirectional water draw: a row a fill, the passes, the accepted three,\n"
+    "the base volume in cubic inches and barrels.",
+    prover(False),
+    entries("fill", fields.FILL),
+)
+TICKET = described(
+    "Prints a measurement ticket: its factor, gross standard and net standard volume.",
+    ["[ticket]", *keys(fields.TICKET)],
+)
+LIVE = described(
+    "Prints a transmitter's temperature and pressure as the skid takes them. Each is a number that a\n"
+    'single holds exactly (73.25), nan or inf, or the single\'s bits in quotes ("42928000").',
+    ["[live]", *keys(fields.LIVE)],
+)
+READ = "Prints what a 32-byte report record says: request, meter factor, the accepted runs and their factors."
+BOOK = "\n".join(
+    [
+        "Works through a session and shows the four lines after each step. A session file that has a",
+        "refused step exits 1; at the keyboard refusals are told and the session goes on.",
+        "",
+        "steps:",
+        *("  " + line for line in books.STEPS.splitlines()),
+    ]
+)
+REWORK = """\
+Works every *.toml of a folder, of any kind. Each result is a row of the CSV as soon as it is known, each
+refusal and bad file a line. Ctrl-C ends after the job in hand; the rows written stay. Exits 0 when all
+were accepted, 1 when one was refused, 2 when a file was bad, 130 after Ctrl-C."""

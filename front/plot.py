@@ -1,0 +1,152 @@
+"""The run factors as a picture: SVG, drawn by hand. Only the places of marks are worked out here."""
+
+import math
+import re
+from xml.sax.saxutils import escape
+
+from .fields import LIMIT
+from .units import shown
+
+WIDTH, HEIGHT = 900, 520
+LEFT, RIGHT, TOP, BOTTOM = 90, 190, 80, 70
+INK, QUIET, ACCEPTED, BAND, OTHER = "#1f2933", "#9aa5b1", "#0b6e4f", "#cfe8dc", "#ffffff"
+FEWEST_STEPS = 6
+LONGEST_NAME = 66
+
+
+def words(text):
+    """A text as XML holds it: control characters have no place there."""
+    return escape(re.sub(r"[^\t\n\r\x20-\ud7ff\ue000-\ufffd\U00010000-\U0010ffff]", "?", text))
+
+
+def label(x, y, text, anchor="middle", size=13, extra=""):
+    return f'<text x="{x:.1f}" y="{y:.1f}" text-anchor="{anchor}" font-size="{size}"{extra}>{words(text)}</text>'
+
+
+def line(x1, y1, x2, y2, colour, extra=""):
+    return f'<line x1="{x1:.1f}" y1="{y1:.1f}" x2="{x2:.1f}" y2="{y2:.1f}" stroke="{colour}"{extra}/>'
+
+
+class Frame:
+    """Where a run and a factor lie on the picture."""
+
+    def __init__(self, count, low, high):
+        self.count = count
+        spare = max((FEWEST_STEPS - (high - low)) // 2, (high - low) // 12, 1)
+        self.low, self.high = low - spare, high + spare
+
+    def x(self, run):
+        return LEFT + (WIDTH - LEFT - RIGHT) * (run - 0.5) / self.count
+
+    def y(self, factor):
+        return HEIGHT - BOTTOM - (HEIGHT - TOP - BOTTOM) * (factor - self.low) / (self.high - self.low)
+
+    @property
+    def steps(self):
+        """Factors with a line of their own: at most a dozen, at round distances."""
+        each = next(step for step in (1, 2, 5, 10, 20, 50, 100, 200, 500, 1000) if (self.high - self.low) // step <= 12)
+        return range(-(-self.low // each) * each, self.high + 1, each)
+
+
+def band_top(smallest, limit):
+    """The highest factor that the limit allows above the smallest of the five."""
+    return smallest + smallest * limit / 10_000
+
+
+def axes(frame):
+    right, floor = WIDTH - RIGHT, HEIGHT - BOTTOM
+    drawn = []
+    for factor in frame.steps:
+        y = frame.y(factor)
+        drawn.append(line(LEFT, y, right, y, QUIET, ' stroke-width="0.5" stroke-dasharray="2 4"'))
+        drawn.append(label(LEFT - 10, y + 4, shown(factor, 4), "end"))
+    drawn += [label(frame.x(run), floor + 22, str(run)) for run in range(1, frame.count + 1)]
+    drawn += [line(LEFT, floor, right, floor, INK), line(LEFT, TOP, LEFT, floor, INK)]
+    drawn.append(label((LEFT + right) / 2, floor + 50, "Run", size=14))
+    middle = (TOP + floor) / 2
+    drawn.append(label(24, middle, "Run factor", size=14, extra=f' transform="rotate(-90 24 {middle:.1f})"'))
+    return drawn
+
+
+def band(frame, factors, runs, limit):
+    """The band of the limit above the smallest of these factors, over their runs."""
+    top, floor = frame.y(band_top(min(factors), limit)), frame.y(min(factors))
+    left, right = frame.x(runs[0] - 0.5), frame.x(runs[-1] + 0.5)
+    place = f'x="{left:.1f}" y="{top:.1f}" width="{right - left:.1f}" height="{floor - top:.1f}"'
+    return [f'<rect class="band" {place} fill="{BAND}"/>']
+
+
+def meter_factor(frame, factor):
+    """The accepted five's mean, as a line with its name."""
+    y = frame.y(factor)
+    look = ' class="meter-factor" stroke-width="1.5" stroke-dasharray="8 4"'
+    told = f"meter factor {shown(factor, 4)}"
+    return [
+        line(LEFT, y, WIDTH - RIGHT, y, ACCEPTED, look),
+        label(WIDTH - RIGHT + 10, y + 4, told, "start", extra=f' fill="{ACCEPTED}"'),
+    ]
+
+
+def marks(frame, factors, accepted):
+    drawn = []
+    points = " ".join(f"{frame.x(run):.1f},{frame.y(factor):.1f}" for run, factor in enumerate(factors, 1))
+    drawn.append(f'<polyline points="{points}" fill="none" stroke="{QUIET}"/>')
+    for run, factor in enumerate(factors, 1):
+        name, fill = ("accepted", ACCEPTED) if run in accepted else ("other", OTHER)
+        place = f'cx="{frame.x(run):.1f}" cy="{frame.y(factor):.1f}" r="6"'
+        drawn.append(
+            f'<circle class="run {name}" {place} fill="{fill}" stroke="{INK}">'
+            f"<title>run {run}: {shown(factor, 4)}</title></circle>"
+        )
+    return drawn
+
+
+def legend(job, outcome):
+    """What the marks mean, beside the top of the picture."""
+    x, y = WIDTH - RIGHT + 18, TOP + 6
+    circle = f'<circle cx="{x}" cy="{{y}}" r="6" fill="{{fill}}" stroke="{INK}"/>'
+    square = f'<rect x="{x - 7}" y="{{top}}" width="14" height="12" fill="{{fill}}"/>'
+    rows = [(circle, ACCEPTED, "accepted run")] if outcome else []
+    rows += [(circle, OTHER, "run"), (square, BAND, f"limit, {LIMIT.text(job.limit)}")]
+    drawn = []
+    for at, (mark, fill, told) in enumerate(rows):
+        here = y + 24 * at
+        drawn += [mark.format(y=here, top=here - 6, fill=fill), label(x + 14, here + 4, told, "start")]
+    return drawn
+
+
+def headline(job):
+    """The job's title, or its file, cut to what the picture holds."""
+    name = job.heading.get("title", job.path)
+    return name if len(name) <= LONGEST_NAME else name[:LONGEST_NAME] + " .."
+
+
+def summary(job, outcome):
+    if not outcome:
+        return f"no five in a row within {LIMIT.text(job.limit)} of the smallest"
+    return f"runs {outcome.first} to {outcome.accepted[-1]} accepted, meter factor {shown(outcome.factor, 4)}"
+
+
+def draw(job, figures, outcome):
+    """The picture's text."""
+    factors = [own["factor"] for own in figures]
+    # Without an accepted five the band stands on the smallest of all, to show how far they lie apart.
+    banded, runs = (outcome.five, outcome.accepted) if outcome else (factors, range(1, len(factors) + 1))
+    top = max(*factors, math.ceil(band_top(min(banded), job.limit)))
+    frame = Frame(len(factors), min(factors), top)
+    name, told = headline(job), summary(job, outcome)
+    parts = [
+        f'<svg xmlns="http://www.w3.org/2000/svg" width="{WIDTH}" height="{HEIGHT}" viewBox="0 0 {WIDTH} {HEIGHT}"'
+        f' font-family="DejaVu Sans, Arial, sans-serif" fill="{INK}" role="img">',
+        f"<title>{words(name)}: {words(told)}</title>",
+        f'<rect width="{WIDTH}" height="{HEIGHT}" fill="#ffffff"/>',
+        label(LEFT, 34, name, "start", 18, ' font-weight="bold"'),
+        label(LEFT, 58, f"Request {job.request}: {told}", "start", 13),
+        *band(frame, banded, runs, job.limit),
+        *(meter_factor(frame, outcome.factor) if outcome else []),
+        *axes(frame),
+        *marks(frame, factors, outcome.accepted if outcome else ()),
+        *legend(job, outcome),
+        "</svg>",
+    ]
+    return "\n".join(parts) + "\n"

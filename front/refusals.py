@@ -1,0 +1,47 @@
+"""The paper's numbers in words."""
+
+from dataclasses import dataclass
+
+# 01, 'Numbers given back'.
+WORDS = {
+    1: "records not whole, or too few or many",
+    2: "an unnamed byte is not zero",
+    3: "prover setting out of range",
+    4: "K factor or limit out of range",
+    5: "record field out of range",
+    6: "pass number or its pressure breaks the rule",
+    7: "indicated volume out of range after rounding",
+    8: "run factor out of range",
+    9: "no qualifying group",
+    10: "ticket field out of range",
+    11: "closing below opening",
+    12: "reading not finite",
+    13: "reading out of range",
+    14: "report buffer not 32 bytes",
+    15: "not a report",
+    20: "book not sound",
+    21: "unknown shipper",
+    22: "number zero",
+    23: "already waiting",
+    24: "ceiling reached",
+    25: "has 2 or more and commons full",
+    26: "withdrawn number not waiting",
+    27: "nothing to take",
+}
+
+
+@dataclass(frozen=True)
+class Explained:
+    """A refusal as people read it; `details` name the record, the field, its value and its range."""
+
+    number: int
+    record: int
+    details: tuple
+
+    @property
+    def headline(self):
+        return f"refused {self.number}: {WORDS[self.number]}"
+
+    @property
+    def line(self):
+        return "; ".join((self.headline, *self.details))

@@ -1,0 +1,49 @@
+"""How far a long work has come: on a terminal a bar with the seconds passed, redrawn until it ends; else nothing."""
+
+import threading
+import time
+
+WIDTH = 30
+EACH_SECONDS = 1.0
+CLEAR = "\r\x1b[K"
+
+
+def bar(done, total):
+    """A bar as wide as always, filled by the share that is done."""
+    filled = WIDTH * done // total
+    return "[" + "#" * filled + "." * (WIDTH - filled) + "]"
+
+
+class Ticker:
+    def __init__(self, total, what, err):
+        self.total, self.what, self.err = total, what, err
+        self.done, self.began = 0, time.monotonic()
+        self.shows = err.isatty()
+        self.over, self.drawing = threading.Event(), threading.Lock()
+        self.thread = threading.Thread(target=self.run, daemon=True)
+        if self.shows:
+            self.draw()
+            self.thread.start()
+
+    def run(self):
+        while not self.over.wait(EACH_SECONDS):
+            self.draw()
+
+    def draw(self):
+        told = f"{self.done} of {self.total} {self.what}, {int(time.monotonic() - self.began)} s"
+        with self.drawing:
+            print(f"{CLEAR}{bar(self.done, self.total)} {told}", end="", file=self.err, flush=True)
+
+    def say(self, line):
+        """A line above the bar."""
+        with self.drawing:
+            if self.shows:
+                print(CLEAR, end="", file=self.err, flush=True)
+            print(line, flush=True)
+
+    def end(self):
+        if self.shows:
+            self.over.set()
+            self.thread.join()
+            self.draw()
+            print(file=self.err, flush=True)

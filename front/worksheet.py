@@ -1,0 +1,91 @@
+"""A proving job as a spreadsheet that recalculates to the program's digits.
+
+Every figure is a whole count of its unit, and every ROUND is of a quotient of whole numbers: docs/WORKSHEET.md says why
+no digit slips. The last part shows the same figures with their points."""
+
+from . import fields
+from .sheet import Sheet, Step
+
+FIVE = fields.GROUP_OF_RUNS
+UNIT, VOLUME = "0.0001", "0.0001 bbl"
+STEPS = (
+    Step("indicated", "Indicated volume", VOLUME, "pulses / K", "ROUND({pulses}*10000000/{$k_factor},0)"),
+    Step(
+        "cts", "Prover CTS", UNIT, "1 + (T - 60) x Gc",
+        "ROUND((100000000+({prover_temperature}-600)*{$coefficient})/10000,0)",
+    ),
+    Step(
+        "cps", "Prover CPS", UNIT, "1 + P x ID / (E x WT)",
+        "ROUND(({$modulus}*{$wall_thickness}+{prover_pressure}*{$inside_diameter})*10000"
+        "/({$modulus}*{$wall_thickness}),0)",
+    ),
+    Step(
+        "prover_cpl", "Prover CPL", UNIT, "1 / (1 - F x P)",
+        "ROUND(1000000000000/(100000000-{prover_compressibility}*{prover_pressure}),0)",
+    ),
+    Step(
+        "prover_factor", "Prover factor CCFp", UNIT, "CTS x CPS x CTL x CPL",
+        "ROUND({cts}*{cps}*{prover_ctl}*{prover_cpl}/1000000000000,0)",
+    ),
+    Step(
+        "meter_cpl", "Meter CPL", UNIT, "1 / (1 - F x P)",
+        "ROUND(1000000000000/(100000000-{meter_compressibility}*{meter_pressure}),0)",
+    ),
+    Step("meter_product", "Meter product CCFm", UNIT, "CTL x CPL", "ROUND({meter_ctl}*{meter_cpl}/10000,0)"),
+    Step(
+        "prover_volume", "Corrected prover volume", VOLUME, "base volume x CCFp",
+        "ROUND({$base_volume}*{prover_factor}/10000,0)",
+    ),
+    Step(
+        "meter_volume", "Corrected meter volume", VOLUME, "indicated x CCFm",
+        "ROUND({indicated}*{meter_product}/10000,0)",
+    ),
+    Step(
+        "factor", "Run factor", UNIT, "prover volume / meter volume",
+        "ROUND({prover_volume}*10000/{meter_volume},0)",
+    ),
+)  # fmt: skip
+
+
+def build(job, figures, outcome):
+    """The sheet; the program's own run factors and meter factor stand beside the recalculated ones."""
+    sheet, count = Sheet(f"Proving worksheet: {job.path}"), len(job.runs)
+    settings(sheet, job)
+    sheet.note("2. RUNS", "Unit of one", "", *(f"run {at + 1}" for at in range(count)))
+    for key, field in fields.RUN.items():
+        sheet.row(key, field.label, field.unit.step, "read", [run.counts[key] for run in job.runs])
+    sheet.note("3. STEPS", "Unit of one", "each rounded once, halves up")
+    sheet.steps(STEPS, count)
+    sheet.note("4. FIVE IN A ROW", "", "beginning with", *(f"run {at + 1}" for at in range(count - FIVE + 1)))
+    sheet.groups("factor", count, FIVE, sheet.fixed("repeatability_limit"), UNIT)
+    results(sheet, figures, outcome)
+    as_read(sheet, count)
+    return sheet
+
+
+def settings(sheet, job):
+    sheet.note("1. SETTINGS", "Unit of one", "")
+    sheet.row("coefficient", "cubical coefficient Gc", fields.COEFFICIENT.unit.step, "", [job.prover.in_use])
+    given = {**job.prover.pipe, "base_volume": job.prover.base}
+    given |= {"k_factor": job.k_factor, "repeatability_limit": job.limit}
+    known = fields.PIPE | fields.named(fields.BASE_VOLUME, fields.K_FACTOR, fields.LIMIT)
+    for key, field in known.items():
+        sheet.row(key, field.label, field.unit.step, "", [given[key]])
+
+
+def results(sheet, figures, outcome):
+    sheet.note("5. RESULT", "Unit of one", "")
+    sheet.first_group("first", "First run used")
+    sheet.of_first_group("meter_factor", "Meter factor", UNIT, "mean")
+    told = outcome.factor if outcome else "none"
+    sheet.row("told", "Meter factor of the report", UNIT, "as Endakuro gave it", [told])
+    factors = [own["factor"] for own in figures]
+    sheet.row("told_runs", "Run factors of the report", UNIT, "as Endakuro gave them", factors)
+    sheet.agree([("meter_factor", "told", 0), *(("factor", "told_runs", at) for at in range(len(factors)))])
+
+
+def as_read(sheet, count):
+    sheet.note("6. AS READ", "Unit", "the steps with their points", *(f"run {at + 1}" for at in range(count)))
+    for step in STEPS:
+        sheet.pointed(step.key, step.label, "bbl" if step.unit == VOLUME else "", 4, range(count))
+    sheet.pointed("meter_factor", "Meter factor", "", 4, range(1))

@@ -1,0 +1,37 @@
+"""The tests of the front end, a line each. Run: python3 tests/front [NAME ..]"""
+
+import importlib
+import sys
+import time
+import traceback
+from pathlib import Path
+
+HERE = Path(__file__).resolve().parent
+sys.path[:0] = [str(HERE), str(HERE.parent), str(HERE.parents[1])]
+NAMES = (
+    "examples", "badfiles", "damaged", "ranges", "reports", "outputs", "worksheets", "halves", "plots", "reworks",
+    "sessions", "building", "helping", "readme", "sums",
+)  # fmt: skip
+
+
+def main():
+    # Before any test: what it tells of its progress is no part of a command's output.
+    importlib.import_module("front.build").ensure()
+    failed = 0
+    for name in sys.argv[1:] or NAMES:
+        began = time.monotonic()
+        try:
+            tally = importlib.import_module(name).test()
+        except Exception:
+            # The other tests still have something to say.
+            traceback.print_exc()
+            print(f"front {name}: stopped", flush=True)
+            failed += 1
+            continue
+        seconds = int(time.monotonic() - began)
+        print(f"front {tally.name}: {tally.checked} checked, {tally.wrong} wrong, {seconds} s", flush=True)
+        failed += bool(tally.wrong or not tally.checked)
+    return 1 if failed else 0
+
+
+sys.exit(main())

@@ -1,0 +1,132 @@
+"""Bad files of every kind: file, key and what was expected, and exit status 2."""
+
+import tempfile
+from pathlib import Path
+
+from harness import ROOT, Tally, called, run
+
+GOOD = (ROOT / "examples" / "figure-5.toml").read_text()
+DRAW = (ROOT / "examples" / "water-draw.toml").read_text()
+LIVE = "[live]\ntemperature = {}\npressure = 40\n"
+
+
+def changed(old, new, text=GOOD):
+    assert old in text, old
+    return text.replace(old, new, 1)
+
+
+# A name, the command, the file's content, and what must be said behind the file's name.
+CASES = (
+    ("not TOML", "prove", "request = = 5", "is not TOML: "),
+    ("a key twice", "prove", "request = 5\nrequest = 6\n", "is not TOML: "),
+    ("not text", "prove", b"\xff\xfe\x00request", "is not text in UTF-8"),
+    ("deep", "prove", "a = " + "[" * 5000, "is not TOML: "),
+    ("empty", "prove", "", "the table [meter] is missing"),
+    ("another kind", "draw", GOOD, "is a job of the kind prove: try ./endakuro prove"),
+    ("no request", "prove", changed("request = 5\n", ""),
+     "request: missing: expected the request number, 1 to 4,294,967,295"),
+    ("missing table", "prove", changed("[meter]\nk_factor = 1000 # pulses/bbl\n", ""), "the table [meter] is missing"),
+    ("no runs", "prove", GOOD[: GOOD.index("[[run]]")], "[[run]] is missing: expected one for each run"),
+    ("runs no list", "prove", GOOD[: GOOD.index("[[run]]")] + "[run]\n",
+     "run: expected [[run]], one table for each run, found a table"),
+    ("run no table", "prove", "run = [1]\n" + GOOD[: GOOD.index("[[run]]")],
+     "run 1: expected a table, found a whole number"),
+    ("table no table", "prove", "prover = 3\nrequest = 1\n[meter]\nk_factor = 1\n[[run]]\n",
+     "[prover]: expected a table, found a whole number"),
+    ("missing key", "prove", changed("wall_thickness = 0.312 # in\n", ""),
+     "[prover], wall_thickness: missing: expected the wall thickness, 0.100 to 3.000 in"),
+    ("missing in a run", "prove", changed("pulses = 17746\n", ""),
+     "run 3, pulses: missing: expected the pulses, 1 to 100,000,000 pulses"),
+    ("key slipped", "prove", changed("prover_ctl", "prover_clt"),
+     "[every_run], prover_clt: unknown key: did you mean prover_ctl?"),
+    ("key slipped at the top", "prove", changed("request", "requests"), "requests: unknown key: did you mean request?"),
+    ("key unheard of", "prove", changed("[meter]", "[meter]\nxyz = 1"),
+     "[meter], xyz: unknown key: expected one of k_factor"),
+    ("key slipped in a run", "prove", changed("meter_temperature = 64.5", "meter_temprature = 64.5"),
+     "run 1, meter_temprature: unknown key: did you mean meter_temperature?"),
+    ("too many digits", "prove", changed("= 63.5", "= 63.55"),
+     "run 3, prover_temperature: 63.55 has more digits than the unit, 0.1 °F: expected at most 1 decimal, in °F"),
+    ("a zero too many", "prove", changed("= 63.5", "= 63.50"),
+     "run 3, prover_temperature: 63.50 has more digits than the unit, 0.1 °F"),
+    ("parts of a pulse", "prove", changed("17743", "17743.5"),
+     "run 1, pulses: 17743.5 has more digits than the unit, 1 pulse: expected a whole number, in pulses"),
+    ("too many by exponent", "prove", changed("8.23e-6", "8.235e-6"),
+     "[every_run], prover_compressibility: 8.235e-6 has more digits than the unit, 0.00000001 per psi"),
+    ("an immense exponent", "prove", changed("30_000_000", "3e9999"), "[prover], modulus: 3e9999 has too many digits"),
+    ("a more immense one", "prove", changed("30_000_000", "3e99999999"), "[prover], modulus: 3e99999999 has too many digits"),
+    ("a key with a control character", "prove", changed("[meter]", '[meter]\n"a\\u001b[2J" = 1'),
+     "[meter], a?[2J: unknown key: expected one of k_factor"),
+    ("an immense number", "prove", changed("30_000_000", "9" * 60), "[prover], modulus: has too many digits"),
+    ("beyond Python", "prove", changed("30_000_000", "9" * 6000), "is not TOML: "),
+    ("beyond its place", "prove", changed("= 63.5", "= 4000.0"),
+     "run 3, prover_temperature: 4,000.0 °F does not fit its place: expected -20.0 to 200.0 °F"),
+    ("below its place", "prove", changed("= 80", "= -1"),
+     "[every_run], prover_pressure: -1 psi does not fit its place: expected 0 to 1,500 psi"),
+    ("not finite", "prove", changed("= 63.5", "= nan"),
+     "run 3, prover_temperature: nan is not a number: expected at most 1 decimal, in °F"),
+    ("another unit", "prove", changed("= 63.5", '= "17.5 °C"'),
+     "run 3, prover_temperature: 17.5 °C is not in °F: expected at most 1 decimal, in °F"),
+    ("a unit on a plain number", "prove", changed("0.9975", '"0.9975 psi"'),
+     "[every_run], prover_ctl: 0.9975 psi is not a plain number: expected at most 4 decimals"),
+    ("text for a number", "prove", changed("= 63.5", '= "warm"'),
+     "run 3, prover_temperature: warm is not a number: expected at most 1 decimal, in °F"),
+    ("true for a number", "prove", changed("= 63.5", "= true"),
+     "run 3, prover_temperature: expected a number (at most 1 decimal, in °F), found true or false"),
+    ("a list for a number", "prove", changed("= 63.5", "= [63.5]"),
+     "run 3, prover_temperature: expected a number (at most 1 decimal, in °F), found a list"),
+    ("a date for a number", "prove", changed("= 63.5", "= 2026-01-01"),
+     "run 3, prover_temperature: expected a number (at most 1 decimal, in °F), found a date or time"),
+    ("metal unknown", "prove", changed("mild carbon", "bronze"),
+     "[prover], metal: bronze is not known: expected one of mild carbon, 304 stainless, 316 stainless, 17-4 PH"),
+    ("metal a number", "prove", changed('"mild carbon"', "304"),
+     "[prover], metal: expected text in quotes, found a whole number"),
+    ("no metal", "prove", changed('metal = "mild carbon"\n', ""),
+     "[prover], metal: missing: expected one of mild carbon"),
+    ("record too short", "prove", GOOD + '[[run]]\nrecord = "00ff"\n',
+     "run 6, record: expected 32 bytes in hex, found 2"),
+    ("record not hex", "prove", GOOD + '[[run]]\nrecord = "xyz"\n', "run 6, record: expected hex digits, two a byte"),
+    ("record not alone", "prove", GOOD + f'[[run]]\npulses = 1\nrecord = "{"00" * 32}"\n',
+     "run 6, record: expected alone: a record holds every field"),
+    ("heading a number", "prove", changed('"API MPMS 12.2, Figure 5"', "5.5"),
+     "[heading], title: expected text in quotes, found a number"),
+    ("heading with a control character", "prove", changed('2, Figure 5"', '\\u001b[2J"'),
+     "[heading], title: expected one line of text without control characters"),
+    ("pass beyond a byte", "draw", changed("pass = 1", "pass = 256", DRAW),
+     "fill 1, pass: 256 does not fit its place: expected 0 to 255"),
+    ("a fill's key slipped", "draw", changed("ctdw", "ctwd", DRAW), "fill 1, ctwd: unknown key: did you mean ctdw?"),
+    ("ticket without a key", "ticket", "[ticket]\nopening = 1\n",
+     "[ticket], closing: missing: expected the closing reading, 0.00 to 999,999.99 bbl"),
+    ("no single", "live", LIVE.format("73.3"),
+     '[live], temperature: no single holds 73.3 exactly: the nearest is 73.3000030517578125, "4292999a"'),
+    ("beyond every single", "live", LIVE.format("1e39"), "[live], temperature: is beyond every single"),
+    ("bits too few", "live", LIVE.format('"4292"'),
+     "[live], temperature: 4292 is no single: expected a number, or eight hex digits in quotes"),
+)  # fmt: skip
+
+
+def test():
+    tally = Tally("bad files")
+    with tempfile.TemporaryDirectory() as folder:
+        path = Path(folder) / "job.toml"
+        for name, command, content, expected in CASES:
+            path.write_bytes(content if isinstance(content, bytes) else content.encode())
+            status, out, err = called(command, path)
+            tally.same((status, out), (2, ""), f"{name}: status and page")
+            tally.check(err.startswith(f"{path}: {expected}"), f"{name}: expected {expected!r}, found {err!r}")
+        places = (("prove", Path(folder) / "none.toml", "No such file"), ("prove", folder, "Is a directory"))
+        places += (("read", Path(folder) / "none", "No such file"), ("book", Path(folder) / "none", "No such file"))
+        for command, place, expected in places:
+            status, out, err = run(command, place)
+            tally.same((status, out), (2, ""), f"{place}: status and page")
+            tally.holds(err, f"{place}: cannot be read: {expected}", command)
+        path.write_text("title = 3\n")
+        status, out, err = run("rework", folder, "--csv", Path(folder) / "out.csv")
+        tally.same(status, 2, "rework: status")
+        tally.holds(out, "holds no job: expected [[run]], [[fill]], [ticket] or [live]", "rework")
+        path.unlink()
+        for place in (folder, path):
+            tally.same(run("rework", place)[0], 2, f"rework of {place}")
+    status, _, err = run("read", "--hex", "0g")
+    tally.same((status, err), (2, "--hex: expected hex digits, two a byte, spaces allowed\n"), "read --hex")
+    tally.same(run("prove")[0], 2, "no file named")
+    return tally

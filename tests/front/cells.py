@@ -1,0 +1,98 @@
+"""What each computed cell of a worksheet must show: the line program's figure, or where a cell holds a part of a
+product or of a long division, the exact whole number."""
+
+from front import fields, figures
+from front.program import Refused, hexed
+from front.records import FILL_LAYOUT
+from front.units import shown
+
+WIDEST = fields.LIMIT.high
+
+
+def read(count, places):
+    """A count with its point, as a spreadsheet writes it: without zeros at the end."""
+    return shown(count, places, group=False).rstrip("0").rstrip(".") if count != "none" else count
+
+
+def groups(values, size, limit, judged):
+    """The cells of the groups; `judged` asks the program whether a group alone is accepted, and for its mean."""
+    cells = {}
+    for at in range(len(values) - size + 1):
+        own = values[at : at + size]
+        meets, mean = judged(at)
+        cells |= {("largest", at): max(own), ("smallest", at): min(own), ("meets", at): meets}
+        cells |= {("spread", at): (max(own) - min(own)) * 10_000, ("allowed", at): limit * min(own)}
+        cells["mean", at] = mean
+    cells["any", 0] = sum(value for (key, _), value in cells.items() if key == "meets")
+    return cells
+
+
+def of_proving(job, runs, outcome, program):
+    cells = {(key, at): own[key] for at, own in enumerate(runs) for key in figures.OF_A_RUN}
+    cells |= {(f"read_{key}", at): read(count, 4) for (key, at), count in cells.items()}
+
+    def judged(at):
+        five = hexed(b"".join(run.record for run in job.runs[at : at + 5]))
+
+        def mean(limit):
+            words = (1, *job.prover.words, job.k_factor, limit, hexed(bytes(32)), five)
+            return asked(program, "prove", *words)
+
+        own = mean(job.limit)
+        # A five beyond the job's limit has its mean told at the widest, where it may be beyond that as well.
+        return (1, own) if own is not None else (0, mean(WIDEST))
+
+    cells |= groups([own["factor"] for own in runs], 5, job.limit, judged)
+    factor, first = (outcome.factor, outcome.first) if outcome else ("none", "none")
+    cells |= {("first", 0): first, ("meter_factor", 0): factor, ("agree", 0): "yes"}
+    cells["read_meter_factor", 0] = read(factor, 4)
+    return cells
+
+
+def asked(program, *words):
+    """The first value that the program answers; None for a refusal."""
+    try:
+        return int(program.ask(*words)[0])
+    except Refused:
+        return None
+
+
+def of_draw(job, fills, passes, answer, program):
+    cells = {(key, at): own[key] for at, own in enumerate(fills) for key in figures.OF_A_FILL}
+    for at, own in enumerate(passes):
+        cells |= {(key, at): own[key] for key in ("sum", "cps", "cpl", "volume")}
+        cells["at_pressure", at] = own["pressure"]
+    volumes = ("adjusted", "drawn", "volume")
+    factors = ("measure_cts", "prover_cts", "ccts", "cps", "cpl")
+    pointed = {(f"read_{key}", at): read(count, 2) for (key, at), count in cells.items() if key in volumes}
+    pointed |= {(f"read_{key}", at): read(count, 6) for (key, at), count in cells.items() if key in factors}
+    for at, (fill, own) in enumerate(zip(job.fills, fills)):
+        water = own["adjusted"] * fill.counts["ctdw"]
+        cells |= {("water", at): water, ("upper", at): water // 10**6, ("product", at): water * own["ccts"] // 10**6}
+    for at, own in enumerate(passes):
+        cells |= divided(at, own["sum"], own["cps"] * own["cpl"])
+
+    def judged(at):
+        three = [fill.counts for fill in job.fills if at < fill.counts["pass"] <= at + 3]
+        records = b"".join(FILL_LAYOUT.pack({**counts, "pass": counts["pass"] - at}) for counts in three)
+        mean = asked(program, "draw", *job.prover.words, hexed(records))
+        return (0, None) if mean is None else (1, mean)
+
+    cells |= pointed | groups([own["volume"] for own in passes], 3, fields.DRAW_LIMIT, judged)
+    base, barrels, first = answer or ("none",) * 3
+    cells |= {("first", 0): first, ("base", 0): base, ("barrels", 0): barrels, ("agree", 0): "yes"}
+    return cells | {("read_base", 0): read(base, 2), ("read_barrels", 0): read(barrels, 4)}
+
+
+def divided(at, left, divisor):
+    cells = {("divisor", at): divisor}
+    for name in ("first", "second", "third", "fourth"):
+        digits, left = divmod(left * 1000, divisor)
+        cells |= {(f"{name}_digits", at): digits, (f"{name}_left", at): left}
+    return cells
+
+
+def of_ticket(told):
+    cells = {(key, 0): count for key, count in told.items()} | {("agree", 0): "yes"}
+    places = {"indicated": 2, "cpl": 4, "factor": 4, "gross": 2, "net": 2}
+    return cells | {(f"read_{key}", 0): read(told[key], places[key]) for key in places}

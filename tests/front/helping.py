@@ -1,0 +1,48 @@
+"""--help of everything: each command is listed, and its help names its options and every key with its range."""
+
+from harness import Tally, run
+
+from front import fields
+
+PROVER = {**fields.PIPE, **fields.named(fields.COEFFICIENT)}
+KEYS = {
+    "prove": PROVER | fields.named(fields.REQUEST, fields.K_FACTOR, fields.LIMIT, fields.BASE_VOLUME) | fields.RUN,
+    "draw": {**PROVER, **fields.FILL},
+    "ticket": fields.TICKET,
+    "live": fields.LIVE,
+    "read": {},
+    "book": {},
+    "rework": {},
+}
+WORDS = {
+    "prove": (
+        *("--record OUT", "--worksheet OUT", "--plot OUT"),
+        *("[prover]", "[meter]", "[[run]]", "[every_run]", *fields.METALS),
+    ),
+    "draw": ("--worksheet OUT", "[prover]", "[[fill]]", "[every_fill]", *fields.METALS),
+    "ticket": ("--worksheet OUT", "[ticket]"),
+    "live": ("[live]", "nan or inf", "bits"),
+    "read": ("RECORD", "--hex BYTES"),
+    "book": ("request SHIPPER NUMBER", "withdraw SHIPPER NUMBER", "take", "empty", "load LAST L0 L1 L2 L3", "quit"),
+    "rework": ("--csv OUT", "Ctrl-C", "130"),
+}
+
+
+def test():
+    tally = Tally("help")
+    status, top, _ = run("--help")
+    tally.same(status, 0, "--help: status")
+    for command, known in KEYS.items():
+        tally.holds(top, f"\n    {command} ", "--help")
+        status, text, _ = run(command, "--help")
+        tally.same(status, 0, f"{command} --help: status")
+        for word in (*WORDS[command], "exit status: 0 accepted; 1 refused"):
+            tally.holds(text, word, command)
+        if known:
+            tally.holds(text, ", ".join(fields.HEADING), command)
+        for key, field in known.items():
+            lines = [line for line in text.splitlines() if line.split()[:1] == [key]]
+            tally.check(any(field.range in line for line in lines), f"{command}: {key} without its range {field.range}")
+        tally.check(max(map(len, text.splitlines())) <= 110, f"{command}: lines too long")
+    tally.same(run("prvoe")[0], 2, "an unknown command")
+    return tally

@@ -1,0 +1,61 @@
+"""Book sessions: from a file, through a pipe, at the keyboard."""
+
+import tempfile
+from pathlib import Path
+
+from harness import LAUNCHER, Tally, at_terminal, run
+
+# Shipper 0 sends nine, shipper 1 five, shipper 2 one: 01's figure.
+NINE = "".join(f"request 0 {number}\n" for number in range(1, 10))
+FIVE = "".join(f"request 1 {number}\n" for number in range(11, 16))
+LINES = """\
+request 21 of shipper 2 goes in
+  shipper 0: 1 2 3 4 5 6 7 8
+  shipper 1: 11 12 13 14
+  shipper 2: 21
+  shipper 3: -
+  last served: shipper 3
+"""
+# A bad line and what is said of it.
+BAD = (
+    ("ask 0 1", "ask: expected one of request, withdraw, take, empty, load, book, help or quit"),
+    ("request 0", "expected: request SHIPPER NUMBER"),
+    ("request 0 1 2", "expected: request SHIPPER NUMBER"),
+    ("take 1", "expected: take"),
+    ("request 256 1", "256: expected a shipper, 0 to 3"),
+    ("request -1 1", "-1: expected a shipper, 0 to 3"),
+    ("request 0 4294967296", "4294967296: expected a request number, 1 to 4294967295"),
+    ("request 0 ²", "²: expected a request number, 1 to 4294967295"),
+    ("load 3 - - -", "expected: load LAST L0 L1 L2 L3"),
+    ("load 3 1,,2 - - -", ": expected a request number, 1 to 4294967295"),
+    ("load 3 " + ",".join(map(str, range(1, 18))) + " - - -", "expected at most 16 numbers in a line"),
+)
+
+
+def test():
+    tally = Tally("book sessions")
+    status, out, err = run("book", given=NINE + FIVE + "request 2 21\n")
+    tally.same((status, err), (1, ""), "a session with refusals")
+    tally.holds(out, "> request 0 9\nrefused 24: ceiling reached; shipper 0 has 8 waiting, range up to 8\n", "ninth")
+    tally.holds(out, "> request 1 15\nrefused 25: has 2 or more and commons full; shipper 1 has 4 waiting", "fifth")
+    tally.check(out.endswith(LINES), f"the four lines: {out[-200:]!r}")
+    status, out, _ = run("book", given="# a note\n\nload 2 1,2 - 3 -\ntake\nempty\nbook\nquit\ntake\n")
+    tally.same(status, 0, "a session without refusals")
+    taken = "> take\nrequest 1 of shipper 0 is taken\n  shipper 0: 2\n  shipper 1: -\n  shipper 2: 3\n"
+    tally.holds(out, taken, "take")
+    lines = "".join(f"  shipper {who}: -\n" for who in range(4))
+    tally.check(out.endswith(f"> book\n{lines}  last served: shipper 3\n"), f"an empty book: {out[-200:]!r}")
+    with tempfile.TemporaryDirectory() as folder:
+        path = Path(folder) / "session.txt"
+        for line, words in BAD:
+            path.write_text(f"request 0 1\n{line}\ntake\n")
+            status, out, err = run("book", path)
+            tally.same((status, err), (2, f"{path}: line 2: {words}\n"), line)
+            tally.check("is taken" not in out, f"{line}: the session went on")
+    typed = "request 0 1\nrequest 0 1\nhello\nhelp\ntake\nquit\n"
+    status, shown = at_terminal([str(LAUNCHER), "book"], typed)
+    tally.same(status, 0, "status at the keyboard")
+    for part in ("book> ", "request 1 of shipper 0 goes in", "refused 23: already waiting", "hello: expected one of"):
+        tally.holds(shown, part, "keyboard")
+    tally.holds(shown, "request 1 of shipper 0 is taken", "keyboard: after a bad line")
+    return tally
