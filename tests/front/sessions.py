@@ -1,5 +1,6 @@
 """Book sessions: from a file, through a pipe, at the keyboard."""
 
+import subprocess
 import tempfile
 from pathlib import Path
 
@@ -52,6 +53,9 @@ def test():
             status, out, err = run("book", path)
             tally.same((status, err), (2, f"{path}: line 2: {words}\n"), line)
             tally.check("is taken" not in out, f"{line}: the session went on")
+    done = subprocess.run([LAUNCHER, "book"], input=b"request 0 1\n\xff\xfe\x1b[2J\n", capture_output=True, cwd="/")
+    said = "standard input: line 2: \ufffd\ufffd?[2J: expected one of"
+    tally.check(done.returncode == 2 and done.stderr.decode().startswith(said), f"wild bytes: {done.stderr!r}")
     typed = "request 0 1\nrequest 0 1\nhello\nhelp\ntake\nquit\n"
     status, shown = at_terminal([str(LAUNCHER), "book"], typed)
     tally.same(status, 0, "status at the keyboard")
