@@ -61,7 +61,7 @@ def parser():
 
 def main(words=None):
     # A letter that a terminal does not have, or a file does not spell, is no reason to stop.
-    for stream in (sys.stdin, sys.stdout, sys.stderr):
+    for stream in filter(None, (sys.stdin, sys.stdout, sys.stderr)):
         stream.reconfigure(errors="replace")
     options = parser().parse_args(words)
     try:

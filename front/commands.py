@@ -97,6 +97,8 @@ def read(options, program):
 
 def book(options, program):
     if not options.session:
+        if not sys.stdin:
+            raise BadFile("standard input", "", "is closed: expected steps, or the name of a session file")
         return books.session(sys.stdin, "standard input", program)
     try:
         file = open(options.session, encoding="utf-8", errors="replace")

@@ -1,4 +1,4 @@
-"""What prove writes besides its page: the record, the worksheet, the plot; nothing more than the record on refusal 9."""
+"""What commands write besides their page: the record, the worksheet, the plot; on refusal 9 no record, else nothing."""
 
 import subprocess
 import tempfile
