@@ -60,7 +60,8 @@ def parser():
 
 
 def main(words=None):
-    for stream in (sys.stdout, sys.stderr):
+    # A letter that a terminal does not have, or a file does not spell, is no reason to stop.
+    for stream in filter(None, (sys.stdin, sys.stdout, sys.stderr)):
         stream.reconfigure(errors="replace")
     options = parser().parse_args(words)
     try:

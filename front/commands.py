@@ -84,8 +84,9 @@ def live(options, program):
 
 
 def read(options, program):
-    record = report_record.from_hex(options.hex) if options.hex else report_record.from_file(options.record)
-    name = "--hex" if options.hex else options.record
+    given = options.hex is not None
+    record = report_record.from_hex(options.hex) if given else report_record.from_file(options.record)
+    name = "--hex" if given else options.record
     try:
         told = figures.read(record, program)
     except Refused as refused:
@@ -96,12 +97,15 @@ def read(options, program):
 
 def book(options, program):
     if not options.session:
+        if not sys.stdin:
+            raise BadFile("standard input", "", "is closed: expected steps, or the name of a session file")
         return books.session(sys.stdin, "standard input", program)
     try:
-        with open(options.session, encoding="utf-8", errors="replace") as file:
-            return books.session(file, options.session, program)
+        file = open(options.session, encoding="utf-8", errors="replace")
     except OSError as fault:
         raise BadFile(options.session, "", f"cannot be read: {fault.strerror}") from fault
+    with file:
+        return books.session(file, options.session, program)
 
 
 def rework_folder(options, program):

@@ -1,5 +1,5 @@
-"""What each computed cell of a worksheet must show: the line program's figure, or where a cell holds a part of a
-product or of a long division, the exact whole number."""
+"""What each computed cell of a worksheet must show: the line program's figure, or the exact whole number where a cell
+holds what no entry tells: a part of a product, a step of a long division, the test of a group."""
 
 from front import fields, figures
 from front.program import Refused, hexed
@@ -22,7 +22,8 @@ def groups(values, size, limit, judged):
         meets, mean = judged(at)
         cells |= {("largest", at): max(own), ("smallest", at): min(own), ("meets", at): meets}
         cells |= {("spread", at): (max(own) - min(own)) * 10_000, ("allowed", at): limit * min(own)}
-        cells["mean", at] = mean
+        # No entry tells the mean of a group that meets no limit.
+        cells["mean", at] = (2 * sum(own) + size) // (2 * size) if mean is None else mean
     cells["any", 0] = sum(value for (key, _), value in cells.items() if key == "meets")
     return cells
 

@@ -1,4 +1,4 @@
-"""What prove writes besides its page: the record, the worksheet, the plot; nothing more than the record on refusal 9."""
+"""What commands write besides their page: the record, the worksheet, the plot; on refusal 9 no record, else nothing."""
 
 import subprocess
 import tempfile
@@ -32,6 +32,8 @@ def test():
         tally.holds(out, "Meter factor              1.0002", "the record is read back")
         status, out, _ = run("read", "--hex", places["record"].read_bytes().hex(" "))
         tally.holds(out, "Meter factor              1.0002", "the record in hex is read back")
+    status, _, err = run("read", "--hex", "")
+    tally.same((status, err.splitlines()[-1]), (1, "   record has 0 bytes, range 32"), "no bytes")
     written = {"prove-05-too-hot.toml": [], "prove-09-runs-drift.toml": ["worksheet", "plot"]}
     for name, expected in written.items():
         with tempfile.TemporaryDirectory() as folder:

@@ -1,5 +1,5 @@
-"""The table of ranges that refusals are explained by, against the line program: at both ends of every field a job is not
-refused for it, one beyond it is, and the words name that field, its value and its range alone."""
+"""The table of ranges that refusals are explained by, against the line program: at both ends of every field a job is
+not refused for it, one beyond it is, and the words name that field, its value and its range alone."""
 
 import tempfile
 import tomllib

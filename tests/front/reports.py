@@ -11,7 +11,6 @@ from front.program import Program, Refused
 from front.units import shown
 
 JOBS = 150
-RULE = "-+-"
 # The columns of a run's row, in the order in which they are printed.
 RUN_COLUMNS = (
     "pulses", "prover_temperature", "prover_pressure", "cts", "cps", "prover_ctl", "prover_cpl", "prover_factor",

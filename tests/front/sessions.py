@@ -1,9 +1,10 @@
 """Book sessions: from a file, through a pipe, at the keyboard."""
 
+import subprocess
 import tempfile
 from pathlib import Path
 
-from harness import LAUNCHER, Tally, at_terminal, run
+from harness import LAUNCHER, Tally, at_terminal, called, run
 
 # Shipper 0 sends nine, shipper 1 five, shipper 2 one: 01's figure.
 NINE = "".join(f"request 0 {number}\n" for number in range(1, 10))
@@ -49,9 +50,12 @@ def test():
         path = Path(folder) / "session.txt"
         for line, words in BAD:
             path.write_text(f"request 0 1\n{line}\ntake\n")
-            status, out, err = run("book", path)
+            status, out, err = called("book", path)
             tally.same((status, err), (2, f"{path}: line 2: {words}\n"), line)
             tally.check("is taken" not in out, f"{line}: the session went on")
+    done = subprocess.run([LAUNCHER, "book"], input=b"request 0 1\n\xff\xfe\x1b[2J\n", capture_output=True, cwd="/")
+    said = "standard input: line 2: \ufffd\ufffd?[2J: expected one of"
+    tally.check(done.returncode == 2 and done.stderr.decode().startswith(said), f"wild bytes: {done.stderr!r}")
     typed = "request 0 1\nrequest 0 1\nhello\nhelp\ntake\nquit\n"
     status, shown = at_terminal([str(LAUNCHER), "book"], typed)
     tally.same(status, 0, "status at the keyboard")

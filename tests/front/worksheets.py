@@ -79,18 +79,12 @@ def made(folder, program):
 
 def test():
     tally = Tally("worksheets")
-    unasked = 0
     with tempfile.TemporaryDirectory() as folder, Program() as program:
         sheets = made(folder, program)
         results = office.recalculated([path for _, path, *_ in sheets], folder)
     for (name, _, sheet, told), rows in zip(sheets, results):
         for key, at in formulas(sheet):
-            if told[key, at] is None:
-                unasked += 1
-                continue
             tally.same(sheet.found(rows, key, at), str(told[key, at]), f"{name}: {key}, column {at + 1}")
-    # A group's mean is told by no entry when the group meets no limit.
-    tally.check(unasked < 120, f"{unasked} means have no figure to compare with")
     counts = {kind: sum(name.startswith(kind) for name, *_ in sheets) for kind in MAKERS}
     tally.check(counts["prove"] >= 200, f"only {counts['prove']} proving jobs have a worksheet")
     told = ", ".join(f"{count} {kind}" for kind, count in counts.items())
