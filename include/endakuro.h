@@ -2,9 +2,10 @@
  *
  * The functions below are proved to do what they say here for every input, so a caller checks nothing first.
  * Build the archive with `rt staticlib api`, link target/staticlib/libapi.a (x86-64), and include this file
- * from C11 or C++17. Nothing here allocates, keeps anything between calls or prints.
+ * from C11 or C++17. Nothing here allocates, keeps anything between calls or prints; a call takes less than 2 KB
+ * of stack.
  *
- * ANSWERS. Every answer starts with `number` and `record`.
+ * ANSWERS start with `number` and `record`; a part of records, a quotient, a book and a bool have neither.
  *   Done:    number 0 and record 0, and the values.
  *   Refused: number from the table below; record is the lent record at fault, from 1, where the table has
  *            a star, and 0 elsewhere; every value is 0. Nothing is written into a lent buffer, and a book is
