@@ -1,4 +1,4 @@
--- What the three walks share: a book behind a `&mut` is opened, with what is known of the book there, and closed at another
+-- What the walks share: a book behind a `&mut` is opened, with what is known of the book there, and closed at another
 -- book; and what a shipper and a number own beside it.
 use mathlib.Core.Path.{refl}
 use Prim.Native.Nat.{ℕ, _<_, _^_}

@@ -11,9 +11,11 @@ use Rattle.keeper.proofs.take.Statement as stated
 use Rattle.keeper.proofs.take.Code as code
 
 abbrev Said : Says taken
-Said found answer left = (toldTake answer ≡ takeOf found) × (left ≡ afterTake found)
+Said found answer left =
+    (toldTake answer ≡ takeOf found) × (left ≡ afterTake found)
 
 pub take-spec : {M : Type 1} → stated.statement M
 unfolding code.routine
 take-spec 𝓤 H 𝓜 𝓖 𝓡 =
-    takes taken Said 𝓤 H 𝓜 𝓖 𝓡 code.env key.name callee.name (code.unfolded 𝓤 H 𝓜 𝓡) callee.routine code.calls-book·take (callee-thm.met 𝓤 H 𝓜 𝓖 𝓡)
+    takes taken Said 𝓤 H 𝓜 𝓖 𝓡 code.env key.name callee.name (code.unfolded 𝓤 H 𝓜 𝓡)
+    callee.routine code.calls-book·take (callee-thm.met 𝓤 H 𝓜 𝓖 𝓡)

@@ -11,9 +11,11 @@ use Rattle.api.proofs.books.endakuro_take.Statement as stated
 use Rattle.api.proofs.books.endakuro_take.Code as code
 
 abbrev Said : Says served
-Said found answer left = (answer ≡ flatTaken (takeOf found)) × (left ≡ afterTake found)
+Said found answer left =
+    (answer ≡ flatTaken (takeOf found)) × (left ≡ afterTake found)
 
 pub endakuro-take-spec : {M : Type 1} → stated.statement M
 unfolding code.routine
 endakuro-take-spec 𝓤 H 𝓜 𝓖 𝓡 =
-    takes served Said 𝓤 H 𝓜 𝓖 𝓡 code.env key.name callee.name (code.unfolded 𝓤 H 𝓜 𝓡) callee.routine code.calls-api·books·serve (callee-thm.met 𝓤 H 𝓜 𝓖 𝓡)
+    takes served Said 𝓤 H 𝓜 𝓖 𝓡 code.env key.name callee.name (code.unfolded 𝓤 H 𝓜 𝓡)
+    callee.routine code.calls-api·books·serve (callee-thm.met 𝓤 H 𝓜 𝓖 𝓡)

@@ -11,9 +11,11 @@ use Rattle.api.proofs.books.endakuro_withdraw.Statement as stated
 use Rattle.api.proofs.books.endakuro_withdraw.Code as code
 
 abbrev Said : Says changed
-Said found shipper number answer left = (answer ≡ flatDone (withdrawalOf found shipper number)) × (left ≡ afterWithdrawal found shipper number)
+Said found shipper number answer left =
+    (answer ≡ flatDone (withdrawalOf found shipper number)) × (left ≡ afterWithdrawal found shipper number)
 
 pub endakuro-withdraw-spec : {M : Type 1} → stated.statement M
 unfolding code.routine
 endakuro-withdraw-spec 𝓤 H 𝓜 𝓖 𝓡 =
-    changes changed Said 𝓤 H 𝓜 𝓖 𝓡 code.env key.name callee.name (code.unfolded 𝓤 H 𝓜 𝓡) callee.routine code.calls-api·books·remove (callee-thm.met 𝓤 H 𝓜 𝓖 𝓡)
+    changes changed Said 𝓤 H 𝓜 𝓖 𝓡 code.env key.name callee.name (code.unfolded 𝓤 H 𝓜 𝓡)
+    callee.routine code.calls-api·books·remove (callee-thm.met 𝓤 H 𝓜 𝓖 𝓡)
