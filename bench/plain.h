@@ -1,8 +1,8 @@
-// The same jobs in plain C, as a programmer writes them from the paper, three times from one text (plain/):
+// The same jobs in plain C by the paper's formulas, three times from one text (plain/):
 //   plain_    with all of the paper's checks
 //   bare_     with none, for input that is known to be good
 //   bitwise_  with all checks, and quotients a bit at a time, as the proved library's lowest layer divides
-// No line is shared with the proved code.
+// No code is shared with the library.
 #pragma once
 #include <endakuro.h>
 
