@@ -99,10 +99,10 @@ module _ (B : Beside) where
     value-clauses κs args = record { ghost = Unit {0}; requires = λ g. emp 𝓤; ensures = λ g r end. fact 𝓤 (Said (args .0) (args .1 .0) (args .1 .1 .0) (B .answer r) (B .book r)) }
 
     -- the `ensures` of the one that it shows, and that it follows from what the callee says
-    abbrev pub Ensures : Type 2
+    abbrev Ensures : Type 2
     Ensures = (κs : Lfts 1) → Args (in-place .signature) κs → Res (in-place .signature) κs → AtExit in-place κs → SProp 𝓤
 
-    abbrev pub Follows : Ensures → Type 1
+    abbrev Follows : Ensures → Type 1
     Follows Ensured = (κs : Lfts 1) (args : Args (in-place .signature) κs) (r : B .part .Value) (end : AtExit in-place κs)
         → Said (now (args .0)) (args .1 .0) (args .1 .1 .0) r (now (end .0)) → ent 𝓤 (emp 𝓤) (Ensured κs args r end)
 
