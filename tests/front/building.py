@@ -33,8 +33,9 @@ class Fresh:
             shutil.copytree(ROOT / name, self.root / name, ignore=shutil.ignore_patterns("__pycache__"))
         for name in ("endakuro", "crates.txt"):
             shutil.copy(ROOT / name, self.root)
-        (self.root / "tests").mkdir()
-        shutil.copy(ROOT / "tests" / "endakuro", self.root / "tests")
+        (self.root / "tests" / "c").mkdir(parents=True)
+        for name in ("tests/endakuro", "tests/kit.sh", "tests/c/run"):
+            shutil.copy(ROOT / name, self.root / name)
         self.source = self.root / "crates" / "group" / "src" / "lib.rt"
         self.source.parent.mkdir(parents=True)
         self.source.write_text("")
