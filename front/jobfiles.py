@@ -25,14 +25,20 @@ def plain(text):
     return "".join(letter if letter.isprintable() else "?" for letter in text)
 
 
-def load(path):
-    """The file's tables."""
+def octets_of(path):
+    """The file as it stands, read once."""
     try:
         with open(path, "rb") as file:
-            # Some editors put a byte order mark before a text.
-            return tomllib.loads(file.read().decode("utf-8-sig"), parse_float=Written)
+            return file.read()
     except OSError as fault:
         raise BadFile(path, "", f"cannot be read: {fault.strerror}") from fault
+
+
+def parsed(path, octets):
+    """The file's tables."""
+    try:
+        # Some editors put a byte order mark before a text.
+        return tomllib.loads(octets.decode("utf-8-sig"), parse_float=Written)
     except UnicodeDecodeError as fault:
         raise BadFile(path, "", "is not text in UTF-8: expected a TOML job file") from fault
     except (ValueError, RecursionError) as fault:

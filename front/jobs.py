@@ -1,9 +1,11 @@
-"""The kinds of job: what a file of each kind holds, and what of it the line program is given."""
+"""The kinds of job: what a file of each kind holds, and what of it the line program is given. `digest` is the file's
+SHA-256, by which a page is known to be the job's."""
 
-from dataclasses import dataclass
+from dataclasses import dataclass, replace
+from hashlib import sha256
 
 from . import fields
-from .jobfiles import BadFile, Table, load
+from .jobfiles import BadFile, Table, octets_of, parsed
 from .records import FILL_LAYOUT, LENGTH, RUN_LAYOUT
 from .singles import single
 
@@ -54,6 +56,7 @@ class Proving:
     k_factor: int
     limit: int
     runs: list
+    digest: str = ""
     kind = "prove"
 
     @property
@@ -67,6 +70,7 @@ class Draw:
     heading: dict
     prover: Prover
     fills: list
+    digest: str = ""
     kind = "draw"
 
     @property
@@ -79,6 +83,7 @@ class Ticket:
     path: str
     heading: dict
     counts: dict
+    digest: str = ""
     kind = "ticket"
 
 
@@ -87,6 +92,7 @@ class Live:
     path: str
     heading: dict
     singles: dict
+    digest: str = ""
     kind = "live"
 
 
@@ -181,10 +187,12 @@ READERS = {"prove": proving_of, "draw": draw_of, "ticket": ticket_of, "live": li
 
 def read(path, wanted=None):
     """The job of a file; `wanted` is the kind that the command takes."""
-    values = load(path)
+    octets = octets_of(path)
+    values = parsed(path, octets)
     kinds = [kind for table, kind in KIND_OF_TABLE.items() if table in values]
     if wanted and kinds and wanted not in kinds:
         raise BadFile(path, "", f"is a job of the kind {kinds[0]}: try ./endakuro {kinds[0]} {path}")
     if not wanted and not kinds:
         raise BadFile(path, "", "holds no job: expected [[run]], [[fill]], [ticket] or [live]")
-    return READERS[wanted or kinds[0]](Table(path, "", values))
+    job = READERS[wanted or kinds[0]](Table(path, "", values))
+    return replace(job, digest=sha256(octets).hexdigest())
