@@ -4,8 +4,9 @@ import argparse
 import os
 import sys
 
-from . import build, commands, helps
+from . import build, commands, helps, outputs
 from .jobfiles import BadFile
+from .outputs import NotWritten
 from .program import Program, ProgramFailed, Refused
 
 BAD_FILE, FAILED, STOPPED = 2, 3, 130
@@ -29,21 +30,21 @@ def parser():
         return own
 
     prove = command("prove", commands.prove, "a proving job: the report with its meter factor", helps.PROVE)
-    prove.add_argument("job", metavar="JOB.toml", help="the job file")
-    prove.add_argument("--record", metavar="OUT", help="write the 32-byte report record; nothing when refused")
-    prove.add_argument("--worksheet", metavar="OUT.csv", help="write the job as a spreadsheet with live formulas")
-    prove.add_argument("--plot", metavar="OUT.svg", help="write a picture of the run factors and the limit's band")
+    job_of(prove)
+    writes(prove, "--record", "OUT", "write the 32-byte report record; nothing when refused")
+    writes(prove, "--worksheet", "OUT.csv", "write the job as a spreadsheet with live formulas")
+    writes(prove, "--plot", "OUT.svg", "write a picture of the run factors and the limit's band")
 
     draw = command("draw", commands.draw, "a water draw: the prover's base volume", helps.DRAW)
-    draw.add_argument("job", metavar="JOB.toml", help="the job file")
-    draw.add_argument("--worksheet", metavar="OUT.csv", help="write the job as a spreadsheet with live formulas")
+    job_of(draw)
+    writes(draw, "--worksheet", "OUT.csv", "write the job as a spreadsheet with live formulas")
 
     ticket = command("ticket", commands.ticket, "a measurement ticket: gross and net volume", helps.TICKET)
-    ticket.add_argument("job", metavar="JOB.toml", help="the job file")
-    ticket.add_argument("--worksheet", metavar="OUT.csv", help="write the ticket as a spreadsheet with live formulas")
+    job_of(ticket)
+    writes(ticket, "--worksheet", "OUT.csv", "write the ticket as a spreadsheet with live formulas")
 
     live = command("live", commands.live, "a live reading: singles to tenths and psi", helps.LIVE)
-    live.add_argument("job", metavar="JOB.toml", help="the job file")
+    job_of(live)
 
     read = command("read", commands.read, "a report record read back", helps.READ)
     source = read.add_mutually_exclusive_group(required=True)
@@ -55,8 +56,29 @@ def parser():
 
     rework = command("rework", commands.rework_folder, "all jobs of a folder: a CSV of results", helps.REWORK)
     rework.add_argument("folder", metavar="FOLDER", help="the folder of job files; folders inside it are left alone")
-    rework.add_argument("--csv", metavar="OUT.csv", default="rework.csv", help="where results go (rework.csv)")
+    writes(rework, "--csv", "OUT.csv", "where results go (rework.csv)", "rework.csv")
     return top
+
+
+def job_of(own):
+    own.add_argument("job", metavar="JOB.toml", help="the job file; - is standard input")
+
+
+def writes(own, option, metavar, told, default=None):
+    """An option that names an output. Those of a command are checked before it runs (`outputs.check`)."""
+    if not own.get_default("written"):
+        own.set_defaults(written=())
+        own.add_argument("--force", action="store_true", help="write over outputs that are there already")
+    own.set_defaults(written=(*own.get_default("written"), option))
+    own.add_argument(option, metavar=metavar, help=told, default=default)
+
+
+def ready(options):
+    """The options, once no output can cost anything that is there. `-` as an output takes the page's place."""
+    places = {option: getattr(options, option.strip("-")) for option in getattr(options, "written", ())}
+    outputs.check([options.job] if "job" in options else [], places, getattr(options, "force", False))
+    options.page = outputs.STANDARD not in places.values()
+    return options
 
 
 def main(words=None):
@@ -65,12 +87,13 @@ def main(words=None):
         stream.reconfigure(errors="replace")
     options = parser().parse_args(words)
     try:
+        ready(options)
         with Program(build.ensure) as program:
             return options.do(options, program)
     except BadFile as told:
         print(told, file=sys.stderr)
         return BAD_FILE
-    except (ProgramFailed, Refused, build.BuildFailed) as told:
+    except (ProgramFailed, Refused, build.BuildFailed, NotWritten) as told:
         # A refusal that no command expects is a fault of the front end, no answer to a job.
         print(told, file=sys.stderr)
         return FAILED

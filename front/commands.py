@@ -1,24 +1,35 @@
 """What each command does; each answers the exit status."""
 
+import os
 import sys
 
 from . import book as books
-from . import draw_report, draw_worksheet, faults, figures, jobs, plot, report, report_record, rework, short_pages
-from . import ticket_worksheet, worksheet
-from .jobfiles import BadFile
+from . import draw_report, draw_worksheet, faults, figures, jobs, outputs, plot, report, report_record, rework
+from . import short_pages, ticket_worksheet, worksheet
+from .jobfiles import BadFile, plain
 from .program import Refused
 
 DONE, REFUSED = 0, 1
 NO_GROUP = 9
 
 
-def show(lines):
-    print("\n".join(lines), flush=True)
+def show(options, lines):
+    """The page, unless an output takes its place."""
+    if options.page:
+        print("\n".join(lines), flush=True)
 
 
 def refuse(path, told):
-    print("\n   ".join((f"{path}: {told.headline}", *told.details)), file=sys.stderr)
+    print("\n   ".join((f"{plain(path)}: {told.headline}", *told.details)), file=sys.stderr)
     return REFUSED
+
+
+def unwritten(options, job, told):
+    """A refused proving: its record is not written, and what stands in its place is none of it."""
+    status = refuse(job.path, told)
+    if options.record and os.path.isfile(options.record):
+        print(f"{plain(options.record)}: not written: the record there is of an earlier job", file=sys.stderr)
+    return status
 
 
 def prove(options, program):
@@ -28,19 +39,17 @@ def prove(options, program):
     except Refused as refused:
         outcome, refusal = None, refused.refusal
         if refusal.number != NO_GROUP:
-            return refuse(job.path, faults.explain(job, refusal, program))
+            return unwritten(options, job, faults.explain(job, refusal, program))
     runs = figures.of_runs(job, program)
-    show(report.accepted_page(job, runs, outcome) if outcome else report.unaccepted_page(job, runs))
+    show(options, report.accepted_page(job, runs, outcome) if outcome else report.unaccepted_page(job, runs))
     if options.worksheet:
-        worksheet.build(job, runs, outcome).write(options.worksheet)
+        outputs.write(options.worksheet, worksheet.build(job, runs, outcome).octets)
     if options.plot:
-        with open(options.plot, "w", encoding="utf-8") as file:
-            file.write(plot.draw(job, runs, outcome))
+        outputs.write(options.plot, plot.draw(job, runs, outcome))
     if refusal:
-        return refuse(job.path, faults.explain(job, refusal, program))
+        return unwritten(options, job, faults.explain(job, refusal, program))
     if options.record:
-        with open(options.record, "wb") as file:
-            file.write(outcome.record)
+        outputs.write(options.record, outcome.record)
     return DONE
 
 
@@ -54,11 +63,11 @@ def draw(options, program):
             return refuse(job.path, faults.explain(job, refusal, program))
     fills, passes = figures.of_fills(job, program), figures.of_passes(job, program)
     if answer:
-        show(draw_report.accepted_page(job, fills, passes, answer))
+        show(options, draw_report.accepted_page(job, fills, passes, answer))
     else:
-        show(draw_report.unaccepted_page(job, fills, passes))
+        show(options, draw_report.unaccepted_page(job, fills, passes))
     if options.worksheet:
-        draw_worksheet.build(job, passes, answer).write(options.worksheet)
+        outputs.write(options.worksheet, draw_worksheet.build(job, passes, answer).octets)
     return refuse(job.path, faults.explain(job, refusal, program)) if refusal else DONE
 
 
@@ -68,16 +77,16 @@ def ticket(options, program):
         answer = figures.ticket(job, program)
     except Refused as refused:
         return refuse(job.path, faults.explain(job, refused.refusal, program))
-    show(short_pages.ticket(job, answer))
+    show(options, short_pages.ticket(job, answer))
     if options.worksheet:
-        ticket_worksheet.build(job, answer).write(options.worksheet)
+        outputs.write(options.worksheet, ticket_worksheet.build(job, answer).octets)
     return DONE
 
 
 def live(options, program):
     job = jobs.read(options.job, "live")
     try:
-        show(short_pages.live(job, figures.live(job, program)))
+        show(options, short_pages.live(job, figures.live(job, program)))
     except Refused as refused:
         return refuse(job.path, faults.explain(job, refused.refusal, program))
     return DONE
@@ -91,7 +100,7 @@ def read(options, program):
         told = figures.read(record, program)
     except Refused as refused:
         return refuse(name, report_record.explain(record, refused.refusal))
-    show(short_pages.read(name, record, told))
+    show(options, short_pages.read(name, record, told))
     return DONE
 
 
@@ -109,4 +118,4 @@ def book(options, program):
 
 
 def rework_folder(options, program):
-    return rework.rework(options.folder, options.csv, program)
+    return rework.rework(options.folder, options.csv, options.force, program)

@@ -10,7 +10,8 @@ built on first use."""
 STATUS = """\
 exit status: 0 accepted; 1 refused: the paper's number in words, the record, the field with its value
 and range; 2 a bad file or command: the file, the key and what was expected; 3 the line program cannot
-be built or run, or an output cannot be written. examples/ has jobs of every kind and of every refusal."""
+be built or run, or an output cannot be written. An output is written whole or not at all; - as its name is
+standard output, in place of the page. examples/ has jobs of every kind and of every refusal."""
 
 JOB_FILE = f"""\
 A job file is TOML. Numbers are in the units that people write and are taken exactly: more digits than

@@ -1,11 +1,14 @@
 """Reading a job file: TOML, exact numbers, and words that help where it is wrong."""
 
 import difflib
+import sys
 import tomllib
 
 from .units import MOST_DIGITS, Inexact
 
 MOST = int("9" * MOST_DIGITS)
+# How a file is called in words where its name is a sign.
+NAMES = {"-": "standard input"}
 
 
 class Written(str):
@@ -17,7 +20,7 @@ class BadFile(Exception):
 
     def __init__(self, path, place, told):
         self.words = plain(f"{place}: {told}" if place else told)
-        super().__init__(f"{path}: {self.words}")
+        super().__init__(f"{plain(str(path))}: {self.words}")
 
 
 def plain(text):
@@ -26,7 +29,11 @@ def plain(text):
 
 
 def octets_of(path):
-    """The file as it stands, read once."""
+    """The file as it stands, read once; `-` is standard input."""
+    if path == "-":
+        if not sys.stdin:
+            raise BadFile(NAMES[path], "", "is closed: expected a job file")
+        return sys.stdin.buffer.read()
     try:
         with open(path, "rb") as file:
             return file.read()

@@ -5,7 +5,7 @@ from dataclasses import dataclass, replace
 from hashlib import sha256
 
 from . import fields
-from .jobfiles import BadFile, Table, octets_of, parsed
+from .jobfiles import NAMES, BadFile, Table, octets_of, parsed
 from .records import FILL_LAYOUT, LENGTH, RUN_LAYOUT
 from .singles import single
 
@@ -187,7 +187,7 @@ READERS = {"prove": proving_of, "draw": draw_of, "ticket": ticket_of, "live": li
 
 def read(path, wanted=None):
     """The job of a file; `wanted` is the kind that the command takes."""
-    octets = octets_of(path)
+    octets, path = octets_of(path), NAMES.get(path, path)
     values = parsed(path, octets)
     kinds = [kind for table, kind in KIND_OF_TABLE.items() if table in values]
     if wanted and kinds and wanted not in kinds:

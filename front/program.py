@@ -44,6 +44,10 @@ class Program:
         except OSError as fault:
             raise ProgramFailed(f"{RUNNER} does not start: {fault.strerror}") from fault
 
+    def ready(self):
+        """Up and answering, before anything is begun that must not be left half done."""
+        self.ask("cpl", 0, 0, 4)
+
     def __exit__(self, *_):
         if not self.process:
             return

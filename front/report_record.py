@@ -1,6 +1,7 @@
 """A report record as bytes: from a file or hex digits, and what is wrong with one that is no report."""
 
 import struct
+import sys
 
 from .fields import REQUEST, RUN_FACTOR, RUNS
 from .jobfiles import BadFile
@@ -12,9 +13,11 @@ LAYOUT = struct.Struct("<IHBB5H14s")
 
 
 def from_file(path):
+    """A report has 32 bytes: one more tells that a file has too many."""
     try:
+        if path == "-" and sys.stdin:
+            return sys.stdin.buffer.read(LENGTH + 1)
         with open(path, "rb") as file:
-            # A report has 32 bytes: one more tells that a file has too many.
             return file.read(LENGTH + 1)
     except OSError as fault:
         raise BadFile(path, "", f"cannot be read: {fault.strerror}") from fault

@@ -1,12 +1,13 @@
 """All jobs of a folder worked again: a row of CSV each, a line for each refusal, a summary."""
 
 import csv
+import io
 import signal
 import sys
 from pathlib import Path
 from typing import NamedTuple
 
-from . import faults, figures, jobs
+from . import faults, figures, jobs, outputs
 from .jobfiles import BadFile
 from .program import Refused
 from .sheet import text
@@ -97,12 +98,16 @@ def paths_of(folder):
     return paths
 
 
-def rework(folder, out, program):
+def rework(folder, out, force, program):
     """The exit status: 0 all accepted, 1 some refused, 2 some files bad, 130 stopped by Ctrl-C."""
     paths = paths_of(folder)
-    # With a byte order mark, as worksheets have it.
-    with open(out, "w", newline="", encoding="utf-8-sig") as file, Stop() as stop:
+    outputs.check(paths, {"--csv": out}, force)
+    program.ready()
+    with outputs.opened(out) as octets, Stop() as stop:
+        # With a byte order mark, as worksheets have it.
+        file = io.TextIOWrapper(octets, "utf-8-sig", newline="", write_through=True)
         counts = work(paths, file, stop, program, Ticker(len(paths), "jobs", sys.stderr))
+        file.detach()
     done = sum(counts.values())
     told = ", ".join(f"{count} {outcome}" for outcome, count in counts.items())
     stopped = f"stopped after {done} of {len(paths)} jobs" if stop.asked else f"{done} jobs"

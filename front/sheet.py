@@ -1,6 +1,7 @@
 """A sheet of labelled rows with live formulas, written as CSV. Rows have names, for formulas and tests to find them."""
 
 import csv
+import io
 from typing import NamedTuple
 
 # The label, the unit of one and how it is worked stand before the figures.
@@ -123,7 +124,9 @@ class Sheet:
         """A cell's content in the rows of a recalculated sheet."""
         return rows[self.places[key]][FIRST_COLUMN + at]
 
-    def write(self, path):
-        """With a byte order mark: without one some spreadsheets do not read ° and ³."""
-        with open(path, "w", newline="", encoding="utf-8-sig") as file:
-            csv.writer(file).writerows(self.rows)
+    @property
+    def octets(self):
+        """As CSV, with a byte order mark: without one some spreadsheets do not read ° and ³."""
+        told = io.StringIO(newline="")
+        csv.writer(told).writerows(self.rows)
+        return told.getvalue().encode("utf-8-sig")

@@ -9,7 +9,7 @@ from pathlib import Path
 HERE = Path(__file__).resolve().parent
 sys.path[:0] = [str(HERE), str(HERE.parent), str(HERE.parents[1])]
 NAMES = (
-    "examples", "badfiles", "damaged", "ranges", "reports", "readback", "outputs", "worksheets", "halves", "plots",
+    "examples", "badfiles", "damaged", "ranges", "reports", "readback", "outputs", "losses", "worksheets", "halves", "plots",
     "reworks", "sessions", "building", "helping", "readme", "sums",
 )  # fmt: skip
 

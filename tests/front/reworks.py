@@ -56,7 +56,7 @@ def mixed(tally, folder):
 
 
 def terminal(tally, folder, files):
-    command = [str(LAUNCHER), "rework", str(folder), "--csv", str(folder / "out.csv")]
+    command = [str(LAUNCHER), "rework", str(folder), "--csv", str(folder / "out.csv"), "--force"]
     status, shown = at_terminal(command)
     tally.same(status, 2, "status at a terminal")
     tally.holds(shown, f"[{'#' * 30}] {len(files)} of {len(files)} jobs", "bar")
@@ -67,7 +67,7 @@ def statuses(tally, folder):
     for name in ("ticket.toml", "refusals/ticket-11-readings-exchanged.toml"):
         shutil.copy(EXAMPLES / name, folder)
         expected = 1 if "refusals" in name else 0
-        tally.same(run("rework", folder, "--csv", folder / "out.csv")[0], expected, name)
+        tally.same(run("rework", folder, "--csv", folder / "out.csv", "--force")[0], expected, name)
 
 
 def interrupted(tally, folder):
@@ -79,8 +79,9 @@ def interrupted(tally, folder):
     process = subprocess.Popen(
         [str(LAUNCHER), "rework", str(folder), "--csv", str(out)], stdout=subprocess.PIPE, text=True, cwd="/"
     )
-    while process.poll() is None and (not out.exists() or out.stat().st_size < 5000):
+    while process.poll() is None and sum(part.stat().st_size for part in folder.glob(".*.part")) < 5000:
         time.sleep(0.01)
+    tally.check(not out.exists(), "the CSV is in its place before it is whole")
     process.send_signal(signal.SIGINT)
     said, _ = process.communicate(timeout=60)
     rows = rows_of(out)

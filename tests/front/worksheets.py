@@ -72,7 +72,7 @@ def made(folder, program):
             sheet, told = MAKERS[job.kind](job, program)
         except Refused:
             continue
-        sheet.write(path.with_suffix(".csv"))
+        path.with_suffix(".csv").write_bytes(sheet.octets)
         sheets.append((f"{job.kind} {number}", path.with_suffix(".csv"), sheet, told))
     return sheets
 
