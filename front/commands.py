@@ -4,19 +4,20 @@ import os
 import sys
 
 from . import book as books
-from . import draw_report, draw_worksheet, faults, figures, jobs, outputs, plot, report, report_record, rework
-from . import short_pages, ticket_worksheet, worksheet
+from . import draw_worksheet, figures, outputs, page, pages, plot, report_record, rework, short_pages
+from . import ticket_worksheet, worksheet
+from . import worked as works
 from .jobfiles import BadFile, plain
 from .program import Refused
 
 DONE, REFUSED = 0, 1
-NO_GROUP = 9
+WORKSHEETS = {"prove": worksheet.build, "draw": draw_worksheet.build, "ticket": ticket_worksheet.build}
 
 
-def show(options, lines):
+def show(options, shown):
     """The page, unless an output takes its place."""
     if options.page:
-        print("\n".join(lines), flush=True)
+        print("\n".join(page.text(shown)), flush=True)
 
 
 def refuse(path, told):
@@ -24,72 +25,39 @@ def refuse(path, told):
     return REFUSED
 
 
-def unwritten(options, job, told):
-    """A refused proving: its record is not written, and what stands in its place is none of it."""
-    status = refuse(job.path, told)
-    if options.record and os.path.isfile(options.record):
-        print(f"{plain(options.record)}: not written: the record there is of an earlier job", file=sys.stderr)
+def job(kind):
+    """The command for a job of a kind. Its outputs are whole before the page is shown: whoever reads the page may leave
+    before its end."""
+
+    def command(options, program):
+        worked = works.read(options.job, kind, program)
+        if worked.has_figures:
+            write_outputs(options, worked)
+            show(options, pages.build(worked))
+        return refuse_job(options, worked) if worked.refusal else DONE
+
+    return command
+
+
+def write_outputs(options, worked):
+    if getattr(options, "worksheet", None):
+        outputs.write(options.worksheet, WORKSHEETS[worked.job.kind](worked).octets)
+    if getattr(options, "plot", None):
+        outputs.write(options.plot, plot.draw(worked))
+    if getattr(options, "record", None) and worked.answer:
+        outputs.write(options.record, worked.answer.record)
+
+
+def refuse_job(options, worked):
+    """A refused job: a proving's record is not written, and what stands in its place is none of it."""
+    status = refuse(worked.job.path, worked.refusal)
+    record = getattr(options, "record", None)
+    if record and os.path.isfile(record):
+        print(f"{plain(record)}: not written: the record there is of an earlier job", file=sys.stderr)
     return status
 
 
-def prove(options, program):
-    job = jobs.read(options.job, "prove")
-    try:
-        outcome, refusal = figures.with_spread(job, figures.prove(job, program), program), None
-    except Refused as refused:
-        outcome, refusal = None, refused.refusal
-        if refusal.number != NO_GROUP:
-            return unwritten(options, job, faults.explain(job, refusal, program))
-    runs = figures.of_runs(job, program)
-    show(options, report.accepted_page(job, runs, outcome) if outcome else report.unaccepted_page(job, runs))
-    if options.worksheet:
-        outputs.write(options.worksheet, worksheet.build(job, runs, outcome).octets)
-    if options.plot:
-        outputs.write(options.plot, plot.draw(job, runs, outcome))
-    if refusal:
-        return unwritten(options, job, faults.explain(job, refusal, program))
-    if options.record:
-        outputs.write(options.record, outcome.record)
-    return DONE
-
-
-def draw(options, program):
-    job = jobs.read(options.job, "draw")
-    try:
-        answer, refusal = figures.draw(job, program), None
-    except Refused as refused:
-        answer, refusal = None, refused.refusal
-        if refusal.number != NO_GROUP:
-            return refuse(job.path, faults.explain(job, refusal, program))
-    fills, passes = figures.of_fills(job, program), figures.of_passes(job, program)
-    if answer:
-        show(options, draw_report.accepted_page(job, fills, passes, answer))
-    else:
-        show(options, draw_report.unaccepted_page(job, fills, passes))
-    if options.worksheet:
-        outputs.write(options.worksheet, draw_worksheet.build(job, passes, answer).octets)
-    return refuse(job.path, faults.explain(job, refusal, program)) if refusal else DONE
-
-
-def ticket(options, program):
-    job = jobs.read(options.job, "ticket")
-    try:
-        answer = figures.ticket(job, program)
-    except Refused as refused:
-        return refuse(job.path, faults.explain(job, refused.refusal, program))
-    show(options, short_pages.ticket(job, answer))
-    if options.worksheet:
-        outputs.write(options.worksheet, ticket_worksheet.build(job, answer).octets)
-    return DONE
-
-
-def live(options, program):
-    job = jobs.read(options.job, "live")
-    try:
-        show(options, short_pages.live(job, figures.live(job, program)))
-    except Refused as refused:
-        return refuse(job.path, faults.explain(job, refused.refusal, program))
-    return DONE
+prove, draw, ticket, live = (job(kind) for kind in ("prove", "draw", "ticket", "live"))
 
 
 def read(options, program):

@@ -49,8 +49,9 @@ def long_division():
     yield Step("volume", "Volume", VOLUME, "the digits, rounded", f"{digits}+IF(2*{{fourth_left}}>={{divisor}},1,0)")
 
 
-def build(job, passes, answer):
-    sheet = Sheet(f"Water draw worksheet: {job.path}")
+def build(worked):
+    job, passes = worked.job, worked.passes
+    sheet = Sheet("Water draw worksheet", job)
     settings(sheet, job.prover)
     sheet.note("2. FILLS", "Unit of one", "", *(f"fill {at + 1}" for at in range(len(job.fills))))
     for key, field in fields.FILL.items():
@@ -61,7 +62,7 @@ def build(job, passes, answer):
     starts = range(len(passes) - THREE + 1)
     sheet.note("5. THREE IN A ROW", "", "beginning with", *(f"pass {at + 1}" for at in starts))
     sheet.groups("volume", len(passes), THREE, str(fields.DRAW_LIMIT), VOLUME)
-    results(sheet, answer)
+    results(sheet, worked.answer)
     as_read(sheet, len(job.fills), len(passes))
     return sheet
 

@@ -16,19 +16,41 @@ OF_A_REPORT = ("request", "factor", "first", "runs")
 
 @dataclass(frozen=True)
 class Outcome:
-    """What an accepted job answers; `within` is the tightest limit that the accepted five meet."""
+    """What an accepted job answers."""
 
     factor: int
     first: int
     runs: int
     five: tuple
     record: bytes
-    within: int | None = None
 
     @property
     def accepted(self):
         """The accepted runs, by their numbers."""
         return range(self.first, self.first + fields.GROUP_OF_RUNS)
+
+
+@dataclass(frozen=True)
+class Group:
+    """Runs or passes in a row. `spread` is the program's, in 0.001 % of the smallest; `within` the tightest limit that
+    they meet. Either is None where the program does not tell it."""
+
+    first: int
+    values: tuple
+    spread: int | None = None
+    within: int | None = None
+
+    @property
+    def numbers(self):
+        return range(self.first, self.first + len(self.values))
+
+    @property
+    def largest(self):
+        return max(self.values)
+
+    @property
+    def smallest(self):
+        return min(self.values)
 
 
 def prove(job, program):
@@ -39,17 +61,59 @@ def prove(job, program):
     return Outcome(factor, first, runs, tuple(five), bytes.fromhex(record))
 
 
-def with_spread(job, outcome, program):
-    """The outcome with the smallest limit at which its five would still be accepted, found by asking."""
-    five = b"".join(job.runs[number - 1].record for number in outcome.accepted)
-    low, high = fields.LIMIT.low, job.limit
+def spread(values, program):
+    """(largest - smallest) as a percentage of the smallest, in 0.001 %, rounded; None where the entry is not there."""
+    kind, *told = program.answer("spread", *values)
+    return int(told[2]) if kind == "ok" else None
+
+
+def tightest(job, group, program):
+    """The smallest limit at which these five would be accepted, found by asking; None where no limit is wide enough."""
+    five = hexed(b"".join(job.runs[number - 1].record for number in group.numbers))
+
+    def meets(limit):
+        return program.ask("runs", *job.prover.words, job.k_factor, limit, five) == [five]
+
+    low, high = fields.LIMIT.low, fields.LIMIT.high
+    if not meets(high):
+        return None
     while low < high:
         middle = (low + high) // 2
-        if program.ask("runs", *job.prover.words, job.k_factor, middle, hexed(five)) == [hexed(five)]:
-            high = middle
-        else:
-            low = middle + 1
-    return replace(outcome, within=high)
+        low, high = (low, middle) if meets(middle) else (middle + 1, high)
+    return high
+
+
+def five_of(job, first, values, program):
+    """Five runs with their spread, or with the limit that they meet where the program does not tell it."""
+    group = Group(first, tuple(values), spread(values, program))
+    return group if group.spread is not None else replace(group, within=tightest(job, group, program))
+
+
+def best_five(job, runs, program):
+    """The five in a row that lie nearest together, the first of them where several do."""
+    factors = [own["factor"] for own in runs]
+    size = fields.GROUP_OF_RUNS
+    starts = range(len(factors) - size + 1)
+    groups = [five_of(job, at + 1, factors[at : at + size], program) for at in starts]
+    return min(groups, key=nearness)
+
+
+def nearness(group):
+    """What groups are ordered by; beyond every limit is farther than all."""
+    told = group.within if group.spread is None else group.spread
+    return (told is None, told or 0)
+
+
+def three_of(passes, first, program):
+    """Three passes in a row with their spread."""
+    volumes = tuple(each["volume"] for each in passes[first - 1 : first - 1 + fields.GROUP_OF_PASSES])
+    return Group(first, volumes, spread(volumes, program))
+
+
+def best_three(passes, program):
+    """The three passes in a row that lie nearest together; None where the program tells no spread."""
+    groups = [three_of(passes, at + 1, program) for at in range(len(passes) - fields.GROUP_OF_PASSES + 1)]
+    return min(groups, key=nearness) if groups[0].spread is not None else None
 
 
 def of_runs(job, program):

@@ -1,16 +1,14 @@
 """The run factors as a picture: SVG, drawn by hand. Only the places of marks are worked out here."""
 
-import math
 import re
 from xml.sax.saxutils import escape
 
 from .fields import LIMIT
+from .plot_scale import BOTTOM, HEIGHT, LEFT, RIGHT, TOP, WIDTH, Scale
 from .units import shown
 
-WIDTH, HEIGHT = 900, 520
-LEFT, RIGHT, TOP, BOTTOM = 90, 190, 80, 70
 INK, QUIET, ACCEPTED, BAND, OTHER = "#1f2933", "#9aa5b1", "#0b6e4f", "#cfe8dc", "#ffffff"
-FEWEST_STEPS = 6
+REFUSED = "#a4161a"
 LONGEST_NAME = 66
 
 
@@ -27,35 +25,13 @@ def line(x1, y1, x2, y2, colour, extra=""):
     return f'<line x1="{x1:.1f}" y1="{y1:.1f}" x2="{x2:.1f}" y2="{y2:.1f}" stroke="{colour}"{extra}/>'
 
 
-class Frame:
-    """Where a run and a factor lie on the picture."""
-
-    def __init__(self, count, low, high):
-        self.count = count
-        spare = max((FEWEST_STEPS - (high - low)) // 2, (high - low) // 12, 1)
-        self.low, self.high = low - spare, high + spare
-
-    def x(self, run):
-        return LEFT + (WIDTH - LEFT - RIGHT) * (run - 0.5) / self.count
-
-    def y(self, factor):
-        return HEIGHT - BOTTOM - (HEIGHT - TOP - BOTTOM) * (factor - self.low) / (self.high - self.low)
-
-    @property
-    def steps(self):
-        """Factors with a line of their own: at most a dozen, at round distances."""
-        each = next(step for step in (1, 2, 5, 10, 20, 50, 100, 200, 500, 1000) if (self.high - self.low) // step <= 12)
-        return range(-(-self.low // each) * each, self.high + 1, each)
-
-
-def band_top(smallest, limit):
-    """The highest factor that the limit allows above the smallest of the five."""
-    return smallest + smallest * limit / 10_000
-
-
 def axes(frame):
     right, floor = WIDTH - RIGHT, HEIGHT - BOTTOM
     drawn = []
+    for there, edge, y in ((frame.above, frame.ceiling, frame.ceiling - 14), (frame.below, frame.floor, floor - 14)):
+        if there:
+            drawn += [line(LEFT, edge, right, edge, INK, ' stroke-width="0.7" stroke-dasharray="6 3"')]
+            drawn += [label(LEFT - 10, y, "off the scale", "end", 10)]
     for factor in frame.steps:
         y = frame.y(factor)
         drawn.append(line(LEFT, y, right, y, QUIET, ' stroke-width="0.5" stroke-dasharray="2 4"'))
@@ -68,11 +44,11 @@ def axes(frame):
     return drawn
 
 
-def band(frame, factors, runs, limit):
+def band(frame, group, limit):
     """The band of the limit above the smallest of these factors, over their runs."""
-    top, floor = frame.y(band_top(min(factors), limit)), frame.y(min(factors))
-    left, right = frame.x(runs[0] - 0.5), frame.x(runs[-1] + 0.5)
-    place = f'x="{left:.1f}" y="{top:.1f}" width="{right - left:.1f}" height="{floor - top:.1f}"'
+    top, height = frame.band(group.smallest, limit)
+    left, right = frame.x(group.numbers[0] - 0.5), frame.x(group.numbers[-1] + 0.5)
+    place = f'x="{left:.1f}" y="{top:.1f}" width="{right - left:.1f}" height="{height:.1f}"'
     return [f'<rect class="band" {place} fill="{BAND}"/>']
 
 
@@ -89,15 +65,17 @@ def meter_factor(frame, factor):
 
 def marks(frame, factors, accepted):
     drawn = []
-    points = " ".join(f"{frame.x(run):.1f},{frame.y(factor):.1f}" for run, factor in enumerate(factors, 1))
+    points = " ".join(f"{frame.x(run):.1f},{frame.mark(factor):.1f}" for run, factor in enumerate(factors, 1))
     drawn.append(f'<polyline points="{points}" fill="none" stroke="{QUIET}"/>')
     for run, factor in enumerate(factors, 1):
         name, fill = ("accepted", ACCEPTED) if run in accepted else ("other", OTHER)
-        place = f'cx="{frame.x(run):.1f}" cy="{frame.y(factor):.1f}" r="6"'
+        x, y = frame.x(run), frame.mark(factor)
         drawn.append(
-            f'<circle class="run {name}" {place} fill="{fill}" stroke="{INK}">'
+            f'<circle class="run {name}" cx="{x:.1f}" cy="{y:.1f}" r="6" fill="{fill}" stroke="{INK}">'
             f"<title>run {run}: {shown(factor, 4)}</title></circle>"
         )
+        if frame.is_off(factor):
+            drawn.append(label(x + 10, y + 4, shown(factor, 4), "start", 11, ' class="off"'))
     return drawn
 
 
@@ -121,31 +99,32 @@ def headline(job):
     return name if len(name) <= LONGEST_NAME else name[:LONGEST_NAME] + " .."
 
 
-def summary(job, outcome):
-    if not outcome:
-        return f"no five in a row within {LIMIT.text(job.limit)} of the smallest"
+def summary(worked):
+    outcome = worked.answer
+    if worked.refusal:
+        best = f"best five: runs {worked.group.numbers[0]} to {worked.group.numbers[-1]}"
+        return f"NOT ACCEPTED, {worked.refusal.headline}; {best}"
     return f"runs {outcome.first} to {outcome.accepted[-1]} accepted, meter factor {shown(outcome.factor, 4)}"
 
 
-def draw(job, figures, outcome):
+def draw(worked):
     """The picture's text."""
-    factors = [own["factor"] for own in figures]
-    # Without an accepted five the band stands on the smallest of all, to show how far they lie apart.
-    banded, runs = (outcome.five, outcome.accepted) if outcome else (factors, range(1, len(factors) + 1))
-    top = max(*factors, math.ceil(band_top(min(banded), job.limit)))
-    frame = Frame(len(factors), min(factors), top)
-    name, told = headline(job), summary(job, outcome)
+    job, outcome = worked.job, worked.answer
+    factors = [own["factor"] for own in worked.runs]
+    frame = Scale(factors, worked.group.values, job.limit)
+    name, told = headline(job), summary(worked)
+    colour = f' fill="{REFUSED}" font-weight="bold"' if worked.refusal else ""
     parts = [
         f'<svg xmlns="http://www.w3.org/2000/svg" width="{WIDTH}" height="{HEIGHT}" viewBox="0 0 {WIDTH} {HEIGHT}"'
         f' font-family="DejaVu Sans, Arial, sans-serif" fill="{INK}" role="img">',
         f"<title>{words(name)}: {words(told)}</title>",
         f'<rect width="{WIDTH}" height="{HEIGHT}" fill="#ffffff"/>',
         label(LEFT, 34, name, "start", 18, ' font-weight="bold"'),
-        label(LEFT, 58, f"Request {job.request}: {told}", "start", 13),
-        *band(frame, banded, runs, job.limit),
+        label(LEFT, 58, f"Request {job.request}: {told}", "start", 13, colour),
+        *band(frame, worked.group, job.limit),
         *(meter_factor(frame, outcome.factor) if outcome else []),
         *axes(frame),
-        *marks(frame, factors, outcome.accepted if outcome else ()),
+        *marks(frame, factors, worked.accepted),
         *legend(job, outcome),
         "</svg>",
     ]

@@ -1,21 +1,33 @@
 """The proving report: a page that a measurement technician signs."""
 
-from . import fields, page
-from .fields import BARREL, FACTOR, HEADING, LIMIT
-from .page import pairs, section, table
+from . import fields, page, spreads
+from .fields import BARREL, FACTOR, LIMIT
+from .page import Grid, Notes, Octets, Page, Pairs, Section, Signatures
 from .units import shown
 
+TITLE, RIGHT = "METER PROVING REPORT", "pipe prover, API MPMS 12.2"
 # Columns by group: a heading, a unit, and what of a run it shows, a count of its record or a figure.
-GROUPS = (
+READ = (
     ("", (("Pulses", "", "pulses"),)),
+    *(
+        (
+            side.capitalize(),
+            (
+                ("T", "°F", f"{side}_temperature"),
+                ("P", "psi", f"{side}_pressure"),
+                ("CTL", "", f"{side}_ctl"),
+                ("F", "per psi", f"{side}_compressibility"),
+            ),
+        )
+        for side in ("prover", "meter")
+    ),
+)
+STEPS = (
     (
         "Prover",
         (
-            ("T", "°F", "prover_temperature"),
-            ("P", "psi", "prover_pressure"),
             ("CTS", "", "cts"),
             ("CPS", "", "cps"),
-            ("CTL", "", "prover_ctl"),
             ("CPL", "", "prover_cpl"),
             ("CCFp", "", "prover_factor"),
             ("Volume", "bbl", "prover_volume"),
@@ -24,10 +36,7 @@ GROUPS = (
     (
         "Meter",
         (
-            ("T", "°F", "meter_temperature"),
-            ("P", "psi", "meter_pressure"),
             ("Indicated", "bbl", "indicated"),
-            ("CTL", "", "meter_ctl"),
             ("CPL", "", "meter_cpl"),
             ("CCFm", "", "meter_product"),
             ("Volume", "bbl", "meter_volume"),
@@ -36,16 +45,13 @@ GROUPS = (
     ("", (("Run", "factor", "factor"),)),
 )
 VOLUMES = ("indicated", "prover_volume", "meter_volume")
-KEY = (
-    "P in psi gage. CCFp = CTS x CPS x CTL x CPL, prover volume = base volume x CCFp.",
-    "Indicated = pulses / K, CCFm = CTL x CPL, meter volume = indicated x CCFm.",
-    "Run factor = prover volume / meter volume.",
+# Columns whose average no entry of the program tells: it is written in by hand, as on the form of the standard.
+AVERAGED = ("pulses", "prover_temperature", "prover_pressure", "meter_temperature", "meter_pressure")
+READ_KEY = ("P in psi gage. CTL and F are given with each run.",)
+STEPS_KEY = (
+    "CCFp = CTS x CPS x CTL x CPL, prover volume = base volume x CCFp. Indicated = pulses / K,",
+    "CCFm = CTL x CPL, meter volume = indicated x CCFm. Run factor = prover volume / meter volume.",
 )
-
-
-def heading(job):
-    """The job in its file's own words."""
-    return pairs([("Job file", job.path)] + [(HEADING[key], job.heading[key]) for key in HEADING if key in job.heading])
 
 
 def metal_of(prover):
@@ -62,7 +68,7 @@ def prover_pairs(prover):
 
 
 def settings(job):
-    return pairs(
+    return Pairs(
         [("Request number", str(job.request)), *prover_pairs(job.prover)]
         + [
             ("Base volume", f"{fields.BASE_VOLUME.text(job.prover.base)} at 60 °F and 0 psi"),
@@ -74,77 +80,73 @@ def settings(job):
 
 def cell(key, run, figures):
     if key in fields.RUN:
-        field = fields.RUN[key]
-        return shown(run.counts[key], field.unit.places)
+        return shown(run.counts[key], fields.RUN[key].unit.places)
     return shown(figures[key], BARREL.places if key in VOLUMES else FACTOR.places)
 
 
-def compressibilities(job):
-    """F as the file gives it: one line where all runs have the same, else one a run."""
-    told = []
-    for run in job.runs:
-        sides = ((side, f"{side}_compressibility") for side in ("prover", "meter"))
-        told.append(", ".join(f"{side} {fields.RUN[key].text(run.counts[key])}" for side, key in sides))
-    if len(set(told)) == 1:
-        return pairs([("Compressibility F", told[0])])
-    return pairs([(f"Compressibility F, run {number}", text) for number, text in enumerate(told, 1)])
-
-
-def runs_table(job, figures, accepted):
-    groups = [(name, [column[:2] for column in own]) for name, own in GROUPS]
-    groups[0][1].insert(0, ("Run", ""))
-    groups[-1][1].append(("", ""))
-    keys = [key for _, own in GROUPS for *_, key in own]
+def table(job, figures, columns, accepted, foot=()):
+    """A row a run, the accepted ones marked."""
+    groups = [("", [("Run", ""), ("", "")]), *((name, [column[:2] for column in own]) for name, own in columns)]
+    keys = [key for _, own in columns for *_, key in own]
     rows = [
-        [str(number), *(cell(key, run, own) for key in keys), "*" if number in accepted else ""]
+        [str(number), "*" if number in accepted else "", *(cell(key, run, own) for key in keys)]
         for number, (run, own) in enumerate(zip(job.runs, figures), 1)
     ]
-    return table(groups, rows)
+    return Grid(groups, rows, foot)
 
 
-def repeatability(job, outcome):
-    numbers = list(outcome.accepted)
-    used = f"{numbers[0]} to {numbers[-1]} of {outcome.runs}: the first five in a row that agree, marked *"
-    largest, smallest = max(outcome.five), min(outcome.five)
-    at = {factor: number for number, factor in reversed(list(zip(numbers, outcome.five)))}
-    return pairs(
+def readings(job, accepted):
+    """What was read; beneath it lines for the averages, as the standard's form has them."""
+    keys = [key for _, own in READ for *_, key in own]
+    foot = ["avg", "*", *("____" if key in AVERAGED else "" for key in keys)] if accepted else ()
+    return table(job, [{}] * len(job.runs), READ, accepted, foot)
+
+
+def steps(worked):
+    """Each run's figures; beneath them the mean of the accepted factors, which is the meter factor."""
+    outcome = worked.answer
+    columns = [key for _, own in STEPS for *_, key in own]
+    foot = ["avg", "*", *[""] * (len(columns) - 1), shown(outcome.factor, FACTOR.places)] if outcome else ()
+    return table(worked.job, worked.runs, STEPS, worked.accepted, foot)
+
+
+def repeatability(worked):
+    group, limit = worked.group, worked.job.limit
+    at = {factor: number for number, factor in reversed(list(zip(group.numbers, group.values)))}
+    span = f"{group.numbers[0]} to {group.numbers[-1]} of {len(worked.runs)}"
+    if worked.refusal:
+        named = ("Best five", f"runs {span}: the five in a row that lie nearest together")
+    else:
+        named = ("Accepted runs", f"{span}: the first five in a row that agree, marked *")
+    return Pairs(
         [
-            ("Accepted runs", used),
-            ("Largest run factor", f"{shown(largest, 4)}, first in run {at[largest]}"),
-            ("Smallest run factor", f"{shown(smallest, 4)}, first in run {at[smallest]}"),
-            ("Spread", f"within {LIMIT.text(outcome.within)} of the smallest; limit {LIMIT.text(job.limit)}: met"),
+            named,
+            ("Largest run factor", f"{shown(group.largest, 4)}, first in run {at[group.largest]}"),
+            ("Smallest run factor", f"{shown(group.smallest, 4)}, first in run {at[group.smallest]}"),
+            *spreads.rows(group, limit, not worked.refusal),
         ]
     )
 
 
-def opening(job, figures, accepted):
-    """The page down to the runs."""
+def conclusion(worked):
+    """The page below the runs."""
+    if worked.refusal:
+        return [Section("D. METER FACTOR"), Notes(["None: the job is not accepted."])]
+    outcome = worked.answer
     return [
-        *page.title("METER PROVING REPORT", "pipe prover, API MPMS 12.2"),
-        *heading(job),
-        *section("A. SETTINGS"),
-        *settings(job),
-        *compressibilities(job),
-        *section("B. RUNS"),
-        *runs_table(job, figures, accepted),
-        *("   " + line for line in KEY),
+        Section("D. METER FACTOR"),
+        Pairs([("Meter factor", f"{shown(outcome.factor, 4)}, the mean of the five")]),
+        Section("E. REPORT RECORD, 32 BYTES IN HEX"),
+        Octets(outcome.record.hex(" ")),
     ]
 
 
-def accepted_page(job, figures, outcome):
-    return [
-        *opening(job, figures, outcome.accepted),
-        *section("C. REPEATABILITY"),
-        *repeatability(job, outcome),
-        *section("D. METER FACTOR"),
-        *pairs([("Meter factor", f"{shown(outcome.factor, 4)}, the mean of the five")]),
-        *section("E. REPORT RECORD, 32 BYTES IN HEX"),
-        f"   {outcome.record.hex(' ')}",
-        *page.signatures("Proved"),
-    ]
-
-
-def unaccepted_page(job, figures):
-    """A job whose runs have all their figures, and no five that agree."""
-    told = f"No five consecutive run factors lie within {LIMIT.text(job.limit)} of the smallest: no meter factor."
-    return [*opening(job, figures, ()), *section("C. REPEATABILITY"), f"   {told}"]
+def build(worked):
+    job = worked.job
+    blocks = [*page.heading(job), Section("A. SETTINGS"), settings(job), Section("B. RUNS")]
+    blocks += [readings(job, worked.accepted), Notes(READ_KEY)]
+    if worked.runs:
+        blocks += [steps(worked), Notes(STEPS_KEY)]
+        blocks += [Section("C. REPEATABILITY"), repeatability(worked), *conclusion(worked)]
+    nearest = [spreads.nearest("five: runs", worked.group, job.limit)] if worked.runs else []
+    return Page(TITLE, RIGHT, [*blocks, Signatures("Proved")], page.verdict(worked.refusal, nearest))

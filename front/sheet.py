@@ -4,6 +4,8 @@ import csv
 import io
 from typing import NamedTuple
 
+from . import version
+
 # The label, the unit of one and how it is worked stand before the figures.
 FIRST_COLUMN = 3
 # What a spreadsheet takes for a formula when a text begins with it.
@@ -46,10 +48,11 @@ class Places(dict):
 
 
 class Sheet:
-    def __init__(self, title):
+    def __init__(self, title, job):
         self.rows = []
         self.places = {}
-        self.note(title)
+        self.note(f"{title}: {job.path}")
+        self.note(f"SHA-256 of the job file {job.digest}, worked by {version.NAME}")
         self.note("Figures are whole counts of the unit beside them; the last part has them with their points.")
 
     def note(self, *words):

@@ -2,8 +2,7 @@
 
 from . import fields, page
 from .fields import FACTOR, LIVE, READING, TICKET
-from .page import pairs, section
-from .report import heading
+from .page import Page, Pairs, Section, Signatures
 from .units import shown
 
 TICKET_LABELS = {
@@ -12,32 +11,36 @@ TICKET_LABELS = {
 }  # fmt: skip
 
 
-def ticket(job, figures):
-    return [
-        *page.title("MEASUREMENT TICKET", "API MPMS 12.2"),
-        *heading(job),
-        *section("A. READINGS AND FACTORS"),
-        *pairs((label, TICKET[key].text(job.counts[key])) for key, label in TICKET_LABELS.items()),
-        *section("B. VOLUMES"),
-        *pairs(
-            [
-                ("Indicated", f"{READING.text(figures['indicated'])}, closing - opening"),
-                ("CPL", shown(figures["cpl"], FACTOR.places)),
-                ("Factor", f"{shown(figures['factor'], FACTOR.places)}, meter factor x CTL x CPL"),
-                ("Gross standard", f"{READING.text(figures['gross'])}, indicated x factor"),
-                ("Net standard", f"{READING.text(figures['net'])}, gross less sediment and water"),
-            ]
-        ),
-        *page.signatures("Issued"),
-    ]
+def ticket(worked):
+    job, figures = worked.job, worked.answer
+    given = Pairs([(label, TICKET[key].text(job.counts[key])) for key, label in TICKET_LABELS.items()])
+    blocks = [*page.heading(job), Section("A. READINGS AND FACTORS"), given]
+    if figures:
+        blocks += [Section("B. VOLUMES"), volumes(figures)]
+    return Page("MEASUREMENT TICKET", "API MPMS 12.2", [*blocks, Signatures("Issued")], page.verdict(worked.refusal))
 
 
-def live(job, answer):
-    rows = []
-    for (key, field), count in zip(LIVE.items(), answer):
+def volumes(figures):
+    return Pairs(
+        [
+            ("Indicated", f"{READING.text(figures['indicated'])}, closing - opening"),
+            ("CPL", shown(figures["cpl"], FACTOR.places)),
+            ("Factor", f"{shown(figures['factor'], FACTOR.places)}, meter factor x CTL x CPL"),
+            ("Gross standard", f"{READING.text(figures['gross'])}, indicated x factor"),
+            ("Net standard", f"{READING.text(figures['net'])}, gross less sediment and water"),
+        ]
+    )
+
+
+def live(worked):
+    job, rows = worked.job, []
+    for key, field in LIVE.items():
         single = job.singles[key]
-        rows.append((field.label.capitalize(), f"{field.text(count)}, from {single.text} (single {single.bits})"))
-    return [*page.title("LIVE READING", "to the nearest 0.1 °F and 1 psi"), *heading(job), "", *pairs(rows)]
+        rows.append([field.label.capitalize(), f"{single.text} (single {single.bits})"])
+    for row, field, count in zip(rows, LIVE.values(), worked.answer or ()):
+        row[1] = f"{field.text(count)}, from {row[1]}"
+    blocks = [*page.heading(job, ()), Section("READING"), Pairs(rows)]
+    return Page("LIVE READING", "to the nearest 0.1 °F and 1 psi", blocks, page.verdict(worked.refusal))
 
 
 def live_words(answer):
@@ -47,16 +50,12 @@ def live_words(answer):
 def read(name, record, told):
     numbers = range(told["first"], told["first"] + fields.GROUP_OF_RUNS)
     factors = [shown(factor, FACTOR.places) for factor in told["five"]]
-    return [
-        *page.title("REPORT RECORD", "read back"),
-        *pairs(
-            [
-                ("Record", name),
-                ("Request number", str(told["request"])),
-                ("Meter factor", shown(told["factor"], FACTOR.places)),
-                ("Accepted runs", f"{numbers[0]} to {numbers[-1]} of {told['runs']}"),
-                *((f"Run factor, run {number}", factor) for number, factor in zip(numbers, factors)),
-                ("Bytes", record.hex(" ")),
-            ]
-        ),
+    rows = [
+        ("Record", name),
+        ("Request number", str(told["request"])),
+        ("Meter factor", shown(told["factor"], FACTOR.places)),
+        ("Accepted runs", f"{numbers[0]} to {numbers[-1]} of {told['runs']}"),
+        *((f"Run factor, run {number}", factor) for number, factor in zip(numbers, factors)),
+        ("Bytes", record.hex(" ")),
     ]
+    return Page("REPORT RECORD", "read back", [Pairs(rows)])

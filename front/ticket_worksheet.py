@@ -14,8 +14,9 @@ STEPS = (
 PLACES = {UNIT: 4, VOLUME: 2}
 
 
-def build(job, figures):
-    sheet = Sheet(f"Ticket worksheet: {job.path}")
+def build(worked):
+    job, figures = worked.job, worked.answer
+    sheet = Sheet("Ticket worksheet", job)
     sheet.note("1. TICKET", "Unit of one", "")
     for key, field in TICKET.items():
         sheet.row(key, field.label, field.unit.step, "read", [job.counts[key]])

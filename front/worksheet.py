@@ -47,9 +47,10 @@ STEPS = (
 )  # fmt: skip
 
 
-def build(job, figures, outcome):
+def build(worked):
     """The sheet; the program's own run factors and meter factor stand beside the recalculated ones."""
-    sheet, count = Sheet(f"Proving worksheet: {job.path}"), len(job.runs)
+    job = worked.job
+    sheet, count = Sheet("Proving worksheet", job), len(job.runs)
     settings(sheet, job)
     sheet.note("2. RUNS", "Unit of one", "", *(f"run {at + 1}" for at in range(count)))
     for key, field in fields.RUN.items():
@@ -58,7 +59,7 @@ def build(job, figures, outcome):
     sheet.steps(STEPS, count)
     sheet.note("4. FIVE IN A ROW", "", "beginning with", *(f"run {at + 1}" for at in range(count - FIVE + 1)))
     sheet.groups("factor", count, FIVE, sheet.fixed("repeatability_limit"), UNIT)
-    results(sheet, figures, outcome)
+    results(sheet, worked.runs, worked.answer)
     as_read(sheet, count)
     return sheet
 

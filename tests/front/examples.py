@@ -7,8 +7,8 @@ FOLDER = ROOT / "examples"
 # What each accepted example must show.
 SHOWN = {
     "worked-run.toml": (
-        "1.0003 1.0000 0.9907 1.0003 0.9913 19.8260 |",
-        "0.9911 19.8220 | 1.0002 *",
+        "1 * | 1.0003 1.0000 1.0003 0.9913 19.8260 |",
+        "0.9911 19.8220 | 1.0002",
         "Meter factor              1.0002",
     ),
     "second-five.toml": (
@@ -19,11 +19,11 @@ SHOWN = {
     "figure-5.toml": ("0.9984 17.6258 |", "Meter factor              0.9963"),
     "figure-6.toml": ("Meter factor              0.9544",),
     "figure-6-printed-cpl.toml": (
-        "1.0003 1.0004 0.9780 1.0078 0.9863 2.0450 |",
+        "1.0003 1.0004 1.0078 0.9863 2.0450 |",
         "1.0080 0.9867",
         "Meter factor              0.9547",
     ),
-    "water-draw.toml": ("21,179.67 *", "21,182.13 *", "21,182.15 *", "21,181.32 in³", "2.1832 bbl"),
+    "water-draw.toml": ("21,179.67", "21,182.13", "21,182.15", "21,181.32 in³", "2.1832 bbl"),
     "ticket.toml": ("500.00 bbl", "0.9913", "495.65 bbl", "493.17 bbl"),
     "ticket-figure-7.toml": ("0.9898", "52,587.08 bbl", "52,508.20 bbl"),
     "live.toml": ("73.3 °F, from 73.25 °F", "40 psi, from 40 psi"),

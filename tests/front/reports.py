@@ -1,4 +1,5 @@
-"""The report's digits over jobs by chance: every figure in its row and column is the file's or the line program's."""
+"""The report's digits over jobs by chance: every figure in its row and column is the file's or the line program's, and
+no line is wider than a page."""
 
 import tempfile
 from pathlib import Path
@@ -6,35 +7,46 @@ from pathlib import Path
 import jobtexts
 from harness import Tally
 
-from front import draw_report, faults, fields, figures, jobs, report
-from front.program import Program, Refused
+from front import fields, figures, jobs, page, pages
+from front import worked as works
+from front.program import Program
 from front.units import shown
 
 JOBS = 150
-# The columns of a run's row, in the order in which they are printed.
+# The columns of a run's rows, in the order in which they are printed.
 RUN_COLUMNS = (
-    "pulses", "prover_temperature", "prover_pressure", "cts", "cps", "prover_ctl", "prover_cpl", "prover_factor",
-    "prover_volume", "meter_temperature", "meter_pressure", "indicated", "meter_ctl", "meter_cpl", "meter_product",
-    "meter_volume", "factor",
+    (
+        "pulses", "prover_temperature", "prover_pressure", "prover_ctl", "prover_compressibility",
+        "meter_temperature", "meter_pressure", "meter_ctl", "meter_compressibility",
+    ),
+    (
+        "cts", "cps", "prover_cpl", "prover_factor", "prover_volume",
+        "indicated", "meter_cpl", "meter_product", "meter_volume", "factor",
+    ),
 )  # fmt: skip
 FILL_COLUMNS = (
-    "pass", "pressure", "certified_volume", "scale_reading", "adjusted", "measure_temperature", "measure_coefficient",
-    "measure_cts", "prover_temperature", "prover_cts", "ctdw", "ccts", "drawn",
+    (
+        "pass", "pressure", "certified_volume", "scale_reading", "measure_temperature", "measure_coefficient",
+        "prover_temperature", "ctdw",
+    ),
+    ("pass", "adjusted", "measure_cts", "prover_cts", "ccts", "drawn"),
 )  # fmt: skip
 FILL_PLACES = {"adjusted": 2, "drawn": 2, "measure_cts": 6, "prover_cts": 6, "ccts": 6}
 
 
-def rows_after(lines, section):
-    """The cells of the table's rows below a section's name."""
+def tables_after(lines, section):
+    """The cells of the rows of each table below a section's name, and of its foot."""
     at = next(at for at, line in enumerate(lines) if line.startswith(section))
-    rule = next(place for place in range(at, len(lines)) if lines[place].lstrip().startswith("---"))
-    rows = []
-    for line in lines[rule + 1 :]:
-        cells = line.replace("|", " ").split()
-        if not cells or not cells[0].isdigit():
-            return rows
-        rows.append(cells)
-    return rows
+    end = next(place for place in range(at + 1, len(lines)) if not lines[place])
+    tables, rows = [], [line.replace("|", " ").split() for line in lines[at:end]]
+    for cells, below in zip(rows, [*rows[1:], [""]]):
+        if cells[0].startswith("---") and below[0] == "avg":
+            tables[-1]["foot"] = below
+        elif cells[0].startswith("---"):
+            tables.append({"rows": []})
+        elif tables and cells[0].isdigit():
+            tables[-1]["rows"].append(cells)
+    return tables
 
 
 def value(lines, name):
@@ -47,61 +59,89 @@ def told(counts, places, keys):
 
 
 def proving(tally, name, job, program):
-    runs = figures.of_runs(job, program)
+    worked = works.work(job, program)
+    lines = page.text(pages.build(worked))
+    fits(tally, name, lines)
+    if not worked.has_figures:
+        tally.holds("\n".join(lines[:6]), "range 0.8000 to 1.2000", name)
+        return
     places = {key: field.unit.places for key, field in fields.RUN.items()} | dict.fromkeys(figures.OF_A_RUN, 4)
-    try:
-        outcome = figures.with_spread(job, figures.prove(job, program), program)
-    except Refused as refused:
-        tally.same(refused.refusal.number, 9, name)
-        lines = report.unaccepted_page(job, runs)
-        accepted = ()
-    else:
-        lines = report.accepted_page(job, runs, outcome)
+    tables = tables_after(lines, "B. RUNS")
+    if tally.same(len(tables), 2, f"{name}: tables"):
+        for table, keys in zip(tables, RUN_COLUMNS):
+            tally.same(len(table["rows"]), len(job.runs), f"{name}: rows")
+            for number, (run, own, cells) in enumerate(zip(job.runs, worked.runs, table["rows"]), 1):
+                marked = [str(number), *["*"] * (number in worked.accepted)]
+                tally.same(cells, [*marked, *told(run.counts | own, places, keys)], f"{name}, run {number}")
+    outcome = worked.answer
+    if outcome:
         accepted = outcome.accepted
+        tally.same(tables[1]["foot"], ["avg", "*", shown(outcome.factor, 4)], f"{name}: mean")
+        tally.same(tables[0]["foot"], ["avg", "*", *["____"] * 5], f"{name}: averages by hand")
         tally.same(value(lines, "Meter factor  "), f"{shown(outcome.factor, 4)}, the mean of the five", name)
-        tally.check(value(lines, "Accepted runs").startswith(f"{accepted[0]} to {accepted[-1]} of {len(runs)}:"), name)
+        span = f"{accepted[0]} to {accepted[-1]} of {len(job.runs)}:"
+        tally.check(value(lines, "Accepted runs").startswith(span), name)
         tally.check(f"   {outcome.record.hex(' ')}" in lines, f"{name}: record")
-        spread(tally, name, job, outcome, lines)
-    found = rows_after(lines, "B. RUNS")
-    tally.same(len(found), len(runs), f"{name}: rows")
-    for number, (run, own, cells) in enumerate(zip(job.runs, runs, found), 1):
-        expected = [str(number), *told(run.counts | own, places, RUN_COLUMNS)] + ["*"] * (number in accepted)
-        tally.same(cells, expected, f"{name}, run {number}")
+    else:
+        tally.check(all("foot" not in table for table in tables), f"{name}: averages of a refused job")
+    head(tally, name, worked, lines)
 
 
-def spread(tally, name, job, outcome, lines):
-    """The limit told is met, and the next tighter one is not."""
-    high, low = max(outcome.five), min(outcome.five)
-    tally.check(value(lines, "Largest run factor").startswith(shown(high, 4)), f"{name}: largest")
-    tally.check(value(lines, "Smallest run factor").startswith(shown(low, 4)), f"{name}: smallest")
-    tightest = outcome.within
-    tally.check((high - low) * 10_000 <= tightest * low, f"{name}: {tightest} is not met")
-    missed = tightest == 1 or (high - low) * 10_000 > (tightest - 1) * low
-    tally.check(missed, f"{name}: {tightest} is not the tightest")
-    expected = f"within {shown(tightest, 2)} % of the smallest; limit {shown(job.limit, 2)} %: met"
-    tally.same(value(lines, "Spread"), expected, name)
+def head(tally, name, worked, lines):
+    """A page tells in its head that its job is not accepted, and only then."""
+    told = [line for line in lines[:3] if line.startswith("NOT ACCEPTED")]
+    expected = [f"NOT ACCEPTED: {worked.refusal.headline}"] if worked.refusal else []
+    tally.same(told, expected, f"{name}: head")
+    tally.check(f"   SHA-256 of the job file   {worked.job.digest}" in lines, f"{name}: digest")
+    tally.check("   Worked by                 Endakuro 1.0" in lines, f"{name}: version")
+
+
+def fits(tally, name, lines):
+    widest = max(lines, key=len)
+    tally.check(len(widest) <= 100, f"{name}: {len(widest)} columns: {widest!r}")
 
 
 def draw(tally, name, job, program):
-    fills, passes = figures.of_fills(job, program), figures.of_passes(job, program)
+    worked = works.work(job, program)
+    fills, passes, answer = worked.fills, worked.passes, worked.answer
     places = {key: field.unit.places for key, field in fields.FILL.items()} | FILL_PLACES
-    try:
-        answer = figures.draw(job, program)
-    except Refused as refused:
-        tally.same(refused.refusal.number, 9, name)
-        lines = draw_report.unaccepted_page(job, fills, passes)
-        accepted = ()
-    else:
-        lines = draw_report.accepted_page(job, fills, passes, answer)
-        accepted = range(answer[2], answer[2] + 3)
+    lines = page.text(pages.build(worked))
+    fits(tally, name, lines)
+    head(tally, name, worked, lines)
+    if answer:
         tally.same(value(lines, "Base volume"), f"{shown(answer[0], 2)} in³, the mean of the three", name)
         tally.same(value(lines, "In barrels"), f"{shown(answer[1], 4)} bbl", name)
-    for number, (fill, own, cells) in enumerate(zip(job.fills, fills, rows_after(lines, "B. FILLS")), 1):
-        tally.same(cells, [str(number), *told(fill.counts | own, places, FILL_COLUMNS)], f"{name}, fill {number}")
-    for number, cells in enumerate(rows_after(lines, "C. PASSES"), 1):
+    tables = tables_after(lines, "B. FILLS")
+    if tally.same(len(tables), 2, f"{name}: tables"):
+        for table, keys in zip(tables, FILL_COLUMNS):
+            for number, (fill, own, cells) in enumerate(zip(job.fills, fills, table["rows"], strict=True), 1):
+                tally.same(cells, [str(number), *told(fill.counts | own, places, keys)], f"{name}, fill {number}")
+    [table] = tables_after(lines, "C. PASSES")
+    tally.same(len(table["rows"]), len(passes), f"{name}: passes")
+    for number, cells in enumerate(table["rows"], 1):
         own = [fill["drawn"] for fill, of in zip(fills, job.fills) if of.counts["pass"] == number]
-        tally.same(cells[2], shown(sum(own), 2), f"{name}, sum of pass {number}")
-        tally.same(cells[0] + cells[-1] * (number in accepted), str(number) + "*" * (number in accepted), name)
+        used = answer and answer[2] <= number < answer[2] + 3
+        marked = [str(number), *["*"] * bool(used)]
+        tally.same(cells[: len(marked)], marked, f"{name}, pass {number}")
+        tally.same(cells[len(marked) + 1], shown(sum(own), 2), f"{name}, sum of pass {number}")
+        tally.same(cells[-1], shown(passes[number - 1]["volume"], 2), f"{name}, volume of pass {number}")
+    if answer:
+        tally.same(table["foot"], ["avg", "*", shown(answer[0], 2)], f"{name}: mean")
+
+
+def widest():
+    """Jobs at the ends of the ranges: their figures are the longest that there are."""
+    yield from map(jobtexts.draw_text, jobtexts.widest_draws())
+    prover = 'metal = "mild carbon"\ninside_diameter = 60.000\nwall_thickness = 0.100\nmodulus = 10000000\n'
+    for base, ctl in (("10000.0000", "1.5000"), ("9500.0000", "0.5000")):
+        shared = "".join(
+            f"{side}_temperature = -20.0\n{side}_pressure = 1500\n{side}_ctl = {ctl}\n{side}_compressibility = 0.0001\n"
+            for side in ("prover", "meter")
+        )
+        runs = "[[run]]\npulses = 100000000\n" * 20
+        heading = f'[heading]\ntitle = "{"long words " * 30}"\nnote = "{"x" * 300}"\n'
+        meter = f"[meter]\nk_factor = 10000.000\n[every_run]\n{shared}"
+        yield f"request = 4294967295\n{heading}[prover]\n{prover}base_volume = {base}\n{meter}{runs}"
 
 
 def test():
@@ -110,16 +150,15 @@ def test():
         path = Path(folder) / "job.toml"
         for number, given in enumerate(jobtexts.days(JOBS, 3)):
             path.write_text(jobtexts.proving_text(given))
-            job = jobs.read(str(path), "prove")
-            try:
-                proving(tally, f"job {number}", job, program)
-            except Refused as refused:
-                # A run without a factor: the words name it.
-                explained = faults.explain(job, refused.refusal, program)
-                tally.holds(explained.line, "range 0.8000 to 1.2000", f"job {number}")
+            proving(tally, f"job {number}", jobs.read(str(path), "prove"), program)
         for number, given in enumerate(jobtexts.draws(JOBS, 4)):
             path.write_text(jobtexts.draw_text(given))
             job = jobs.read(str(path), "draw")
             tally.same(job.records, given.records, f"draw {number}: records")
             draw(tally, f"draw {number}", job, program)
+        for number, given in enumerate(widest()):
+            path.write_text(given)
+            job = jobs.read(str(path))
+            tally.check(works.work(job, program).has_figures, f"widest {number} has no figures")
+            (proving if job.kind == "prove" else draw)(tally, f"widest {number}", job, program)
     return tally

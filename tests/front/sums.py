@@ -7,13 +7,13 @@ from harness import ROOT, Tally
 
 OPERATORS = (ast.Mult, ast.Div, ast.FloorDiv, ast.Mod, ast.Pow)
 CALLS = {"round", "float", "Decimal", "Fraction", "divmod", "sum", "pow", "ceil", "fsum", "mean"}
-# (module, function): what it is for. plot.py places marks and is free.
+# (module, function): what it is for. plot.py and plot_scale.py place marks and are free.
 KNOWN = {
     ("build", ""): "paths",
     ("build", "is_current"): "paths",
     ("fields", ""): "what a place of 1, 2 or 4 bytes holds",
-    ("figures", "with_spread"): "halving the limits to ask for",
-    ("page", "table"): "widths of columns",
+    ("figures", "tightest"): "halving the limits to ask for",
+    ("page", "grid"): "widths of columns",
     ("rework", "rework"): "jobs counted",
     ("sheet", "column"): "a column's letters",
     ("sheet", "pointed"): "a power of ten inside a formula",
@@ -22,7 +22,7 @@ KNOWN = {
     ("singles", "single"): "a number's single",
     ("ticker", "bar"): "a bar's length",
 }
-GEOMETRY = {"plot"}
+GEOMETRY = {"plot", "plot_scale"}
 
 
 def is_text(node):

@@ -8,37 +8,25 @@ import jobtexts
 import office
 from harness import Tally
 
-from front import draw_worksheet, figures, jobs, ticket_worksheet, worksheet
-from front.program import Program, Refused
+from front import draw_worksheet, jobs, ticket_worksheet
+from front import worked as works
+from front import worksheet
+from front.program import Program
 from front.sheet import FIRST_COLUMN
 
 DAYS, HALVES, DRAWS, TICKETS = 150, 110, 20, 24
 
 
-def outcome_of(asked, job, program):
-    """A job's outcome, None where no group agrees; any other refusal has no worksheet."""
-    try:
-        return asked(job, program)
-    except Refused as refused:
-        if refused.refusal.number != 9:
-            raise
-        return None
+def proving(worked, program):
+    return worksheet.build(worked), cells.of_proving(worked.job, worked.runs, worked.answer, program)
 
 
-def proving(job, program):
-    outcome, runs = outcome_of(figures.prove, job, program), figures.of_runs(job, program)
-    return worksheet.build(job, runs, outcome), cells.of_proving(job, runs, outcome, program)
+def draw(worked, program):
+    return draw_worksheet.build(worked), cells.of_draw(worked.job, worked.fills, worked.passes, worked.answer, program)
 
 
-def draw(job, program):
-    answer = outcome_of(figures.draw, job, program)
-    fills, passes = figures.of_fills(job, program), figures.of_passes(job, program)
-    return draw_worksheet.build(job, passes, answer), cells.of_draw(job, fills, passes, answer, program)
-
-
-def ticket(job, program):
-    told = figures.ticket(job, program)
-    return ticket_worksheet.build(job, told), cells.of_ticket(told)
+def ticket(worked, program):
+    return ticket_worksheet.build(worked), cells.of_ticket(worked.answer)
 
 
 MAKERS = {"prove": proving, "draw": draw, "ticket": ticket}
@@ -68,10 +56,10 @@ def made(folder, program):
         path = Path(folder) / f"{number}.toml"
         path.write_text(text)
         job = jobs.read(str(path))
-        try:
-            sheet, told = MAKERS[job.kind](job, program)
-        except Refused:
+        worked = works.work(job, program)
+        if not worked.has_figures:
             continue
+        sheet, told = MAKERS[job.kind](worked, program)
         path.with_suffix(".csv").write_bytes(sheet.octets)
         sheets.append((f"{job.kind} {number}", path.with_suffix(".csv"), sheet, told))
     return sheets

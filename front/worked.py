@@ -1,0 +1,82 @@
+"""A job worked: all that its page, worksheet, plot and JSON show, asked once."""
+
+from dataclasses import dataclass
+
+from . import faults, figures, jobs
+from .program import Refused
+from .refusals import Explained
+
+NO_GROUP = 9
+
+
+@dataclass(frozen=True)
+class Worked:
+    """`answer` is None where the job is refused; without figures of its records there is only `refusal` to show."""
+
+    job: object
+    answer: object = None
+    refusal: Explained | None = None
+    # A proving's runs, or a draw's fills and passes; the group is the accepted one, else the nearest to it.
+    runs: list | None = None
+    fills: list | None = None
+    passes: list | None = None
+    group: figures.Group | None = None
+
+    @property
+    def accepted(self):
+        """The numbers of the accepted runs or passes."""
+        return self.group.numbers if self.group and not self.refusal else ()
+
+    @property
+    def has_figures(self):
+        """Every record of the job has its figures: only then is there a worksheet, and a plot of a proving."""
+        return not self.refusal or self.refusal.number == NO_GROUP
+
+
+def prove(job, program):
+    answer, refusal = answered(figures.prove, job, program)
+    if refusal and refusal.number != NO_GROUP:
+        return Worked(job, refusal=refusal)
+    runs = figures.of_runs(job, program)
+    if answer:
+        group = figures.five_of(job, answer.first, answer.five, program)
+    else:
+        group = figures.best_five(job, runs, program)
+    return Worked(job, answer, refusal, runs=runs, group=group)
+
+
+def draw(job, program):
+    answer, refusal = answered(figures.draw, job, program)
+    if refusal and refusal.number != NO_GROUP:
+        return Worked(job, refusal=refusal)
+    fills, passes = figures.of_fills(job, program), figures.of_passes(job, program)
+    group = figures.three_of(passes, answer[2], program) if answer else figures.best_three(passes, program)
+    return Worked(job, answer, refusal, fills=fills, passes=passes, group=group)
+
+
+def ticket(job, program):
+    return Worked(job, *answered(figures.ticket, job, program))
+
+
+def live(job, program):
+    return Worked(job, *answered(figures.live, job, program))
+
+
+def answered(asked, job, program):
+    """What the program answers, and what it refuses."""
+    try:
+        return asked(job, program), None
+    except Refused as refused:
+        return None, faults.explain(job, refused.refusal, program)
+
+
+WORKERS = {"prove": prove, "draw": draw, "ticket": ticket, "live": live}
+
+
+def work(job, program):
+    return WORKERS[job.kind](job, program)
+
+
+def read(path, kind, program):
+    """The job of a file, worked; `kind` is the one that the command takes."""
+    return work(jobs.read(path, kind), program)
