@@ -7,7 +7,7 @@ use native.Mathlib.Omega.{arith}
 use native.Mathlib.Nat.{lt-of-not-le}
 use native.Mathlib.Decide.{decLt}
 use borrow.Author.Tests.{lt-ltb, le-ltb, ltb-true, eq-eqb, ne-eqb, eqb-false, not-true}
-use lib.Dec.{ltb, eqb}
+use lib.Dec.{ltb}
 use lib.ListN.{drop}
 use Rattle.refusals.specs.Told.{Told, done, refused, Fault, fine, fault, demand, orElse, judged}
 use Rattle.refusals.proofs.Laws.{done-one, judged-fault, judged-refused, judged-was, orElse-first, orElse-fine-first, orElse-fine-next, demand-was}

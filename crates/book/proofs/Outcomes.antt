@@ -2,7 +2,7 @@
 use mathlib.Core.Path.{_≡_, refl, sym, ap, _∙_}
 use mathlib.Core.Bool.{Bool}
 use Prim.Native.Nat.{ℕ}
-use Rattle.refusals.specs.Told.{Told, done, refused}
+use Rattle.refusals.specs.Told.{Told, refused}
 use Rattle.refusals.specs.Table.{numberOf, recordOf}
 use Rattle.refusals.specs.declared.Refusal.{Refusal}
 use Rattle.refusals.proofs.Laws.{done-one, refusal-one, refused-number, refused-record, refused-not-done}

@@ -1,7 +1,6 @@
 -- What a rounded quotient answers: when it is a value, and which.
-use mathlib.Core.Path.{_≡_, refl, sym, ap, _∙_}
+use mathlib.Core.Path.{_≡_, sym, ap, _∙_}
 use mathlib.Core.Logic.{by-cases}
-use mathlib.Core.Bool.{true, false, cond}
 use Prim.Native.Nat.{ℕ, zero, suc, _+_, _*_, _-_, _^_, _<_, _≤_}
 use native.Mathlib.Nat.{div-zero, le-mul-of-pos-right}
 use native.Mathlib.Omega.{arith}
@@ -9,7 +8,6 @@ use native.Mathlib.Decide.{decLt}
 use borrow.Author.Tests.{lt-ltb, le-ltb, ne-eqb}
 use Rattle.exact.specs.Rounding.{roundedDiv}
 use Rattle.exact.specs.Quotient.{quotientOf, valueOrZero}
-use Rattle.exact.specs.declared.Quotient.{Quotient}
 use Rattle.exact.specs.declared.Quotient.the-variants.{Value, ZeroDivisor, TooLarge}
 use Rattle.exact.proofs.Rounding.{at-most, at-least, keeps, goes-up}
 

@@ -1,10 +1,10 @@
 -- The rounding law, once over the places d: `rounded d (num over den)` is the whole number of 10^-d nearest to num / den, halves up; no
 -- other whole number is; it goes by the fraction's value alone, and it is monotone in it.
-use mathlib.Core.Path.{_≡_, refl, sym, ap, _∙_}
-use Prim.Native.Nat.{ℕ, zero, suc, _+_, _*_, _/_, _^_, _<_, _≤_}
+use mathlib.Core.Path.{_≡_, sym, ap, _∙_}
+use Prim.Native.Nat.{ℕ, _+_, _*_, _/_, _^_, _<_, _≤_}
 use native.Mathlib.Nat.{mul-assoc, mul-comm, mul-left-comm, add-mul, one-mul, div-mul-le-self, lt-div-mul-add, div-eq-of-lt-le, lt-of-mul-lt-mul-right, mul-le-mul-right, mul-lt-mul-of-pos-right, mul-right-comm, le-antisymm, le-of-eq, mul-div-mul-right}
 use native.Mathlib.Omega.{arith}
-use Rattle.exact.specs.Rounding.{roundedDiv, Fraction, _over_, rounded}
+use Rattle.exact.specs.Rounding.{roundedDiv, _over_, rounded}
 
 -- q is the whole number nearest to n / d, and the upper one where two are as near: q - 1/2 ≤ n / d < q + 1/2
 pub record Nearest (n d q : ℕ) : Type 0 where

@@ -1,10 +1,9 @@
 -- The two words of a number, and the number of two words.
-use mathlib.Core.Path.{_≡_, sym, _∙_}
-use Prim.Native.Nat.{ℕ, _+_, _*_, _/_, _%_, _^_, _<_}
+use mathlib.Core.Path.{_≡_}
+use Prim.Native.Nat.{ℕ, _+_, _*_, _^_, _<_}
 use native.Mathlib.Nat.{div-add-mod'}
 use lib.Arith.{digits-div, digits-mod}
 use Rattle.exact.specs.Words.{valueOf, wideOf}
-use Rattle.exact.specs.declared.Wide.{Wide}
 
 -- no number has two pairs of words
 pub words-one : (hi : ℕ) {lo : ℕ} → lo < 2 ^ 64 → wideOf (hi * 2 ^ 64 + lo) ≡ record { hi = hi; lo = lo }

@@ -2,20 +2,18 @@
 use mathlib.Core.Path.{_≡_, refl, sym, ap, _∙_}
 use mathlib.Core.Bool.{Bool, true, false, cond}
 use mathlib.Core.List.{List, [], _∷_}
-use Prim.Native.Nat.{ℕ, zero, suc, _+_, _*_, _^_, _<_, _≤_}
+use Prim.Native.Nat.{ℕ, zero, suc, _*_, _^_, _<_, _≤_}
 use native.Mathlib.Nat.{mul-one, one-mul, mul-assoc, mul-le-mul, pow-zero, pow-suc}
 use native.Mathlib.Omega.{arith}
 use borrow.Author.Tests.{le-leb, lt-leb, lt-ltb, ne-eqb}
-use lib.Dec.{leb, ltb}
-use lib.ListN.{length, getD, List·getD-eq-default}
+use lib.Dec.{ltb}
+use lib.ListN.{length, getD}
 use Rattle.exact.specs.Rounding.{roundedDiv, rounded, _over_}
 use Rattle.exact.specs.Quotient.{quotientOf}
-use Rattle.exact.specs.declared.Quotient.{Quotient}
 use Rattle.exact.specs.declared.Quotient.the-variants.{Value as Quotient·Value, ZeroDivisor, TooLarge as Quotient·TooLarge}
 use Rattle.exact.proofs.Rounding.{cancelled, rounded-only}
 use Rattle.factors.specs.Fractions.{productOf, combined}
 use Rattle.factors.specs.Answers.{heldBy, held, combinedOf}
-use Rattle.factors.specs.declared.Combined.{Combined}
 use Rattle.factors.specs.declared.Combined.the-variants.{Value, TooMany, TooLarge}
 
 -- an element that is there, whatever stands for one that is not

@@ -1,16 +1,14 @@
 -- 01, 'Figures to hold against': those of the factors, as equations of the definitions.
 use mathlib.Core.Path.{_≡_, refl}
-use mathlib.Core.List.{List, [], _∷_}
-use Prim.Native.Nat.{ℕ}
+use mathlib.Core.List.{[], _∷_}
 use lib.IntN.{pos}
 use Rattle.exact.specs.Rounding.{rounded, roundedDiv}
-use Rattle.refusals.specs.Told.{Told, done}
+use Rattle.refusals.specs.Told.{done}
 use Rattle.ranges.specs.Table.{temperatureOk, coefficientOk, pressureOk, modulusOk, diameterOk, wallOk, compressibilityOk}
 use Rattle.factors.specs.Metal.{metalOk}
 use Rattle.factors.specs.Fractions.{cts, cps, cpl, combined}
 use Rattle.factors.specs.Answers.{pipeOk, ctsOf, cpsOf, cplOf, held, combinedOf}
 use Rattle.factors.specs.declared.Metal.the-variants.{MildCarbon, Certified}
-use Rattle.factors.specs.declared.Combined.{Combined}
 use Rattle.factors.specs.declared.Combined.the-variants.{Value}
 
 pub record Figures : Type 0 where

@@ -1,10 +1,9 @@
 -- The factors' magnitudes, and what each answer is once the ranges are known.
-use mathlib.Core.Path.{_≡_, refl, sym, ap, _∙_}
-use mathlib.Core.Bool.{Bool, true, false, _&&_}
-use Prim.Native.Nat.{ℕ, _+_, _*_, _-_, _^_, _<_, _≤_}
-use native.Mathlib.Nat.{mul-assoc, mul-comm, mul-left-comm, mul-le-mul, mul-le-mul-left, mul-le-mul-right, le-trans, le-of-eq}
+use mathlib.Core.Path.{_≡_, sym, ap, _∙_}
+use Prim.Native.Nat.{ℕ, _*_, _-_, _^_, _<_, _≤_}
+use native.Mathlib.Nat.{mul-assoc, mul-comm, mul-le-mul-right, le-trans, le-of-eq}
 use native.Mathlib.Omega.{arith}
-use Rattle.exact.specs.Rounding.{roundedDiv, rounded, Fraction, _over_}
+use Rattle.exact.specs.Rounding.{rounded, _over_}
 use Rattle.exact.specs.Quotient.{quotientOf, valueOrZero}
 use Rattle.exact.proofs.Rounding.{at-most}
 use Rattle.exact.proofs.Answers.{value-below}

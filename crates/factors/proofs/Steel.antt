@@ -1,15 +1,14 @@
 -- The steel factors: CTS without a number below zero, the temperature counted from -100.0 °F; and the magnitudes of CPS.
-use mathlib.Core.Path.{_≡_, refl, sym, ap, _∙_, subst}
-use mathlib.Core.Bool.{Bool, true, false, _&&_, cond, and-true}
+use mathlib.Core.Path.{_≡_, refl, sym, ap, _∙_}
+use mathlib.Core.Bool.{true, _&&_, and-true}
 use mathlib.Core.Logic.{by-cases}
-use Prim.Native.Nat.{ℕ, zero, suc, _+_, _*_, _-_, _^_, _<_, _≤_}
+use Prim.Native.Nat.{ℕ, zero, suc, _+_, _*_, _-_, _<_, _≤_}
 use native.Mathlib.Nat.{add-mul, mul-le-mul}
 use native.Mathlib.Decide.{decLt}
 use native.Mathlib.Omega.{arith}
 use borrow.Author.Tests.{leb-true, lt-ltb, le-ltb}
-use lib.Dec.{T, leb, ltb}
+use lib.Dec.{leb}
 use lib.IntN.{ℤ, pos, negsuc, negℤ, natAbs, subℕ, _+ℤ_, _-ℤ_, _*ℤ_, +ℤ-negℤ-cancel, +ℤ-assoc}
-use lib.Signed.{nonNeg, mag}
 use Rattle.ranges.specs.Table.{temperatureOk, pressureOk, diameterOk, wallOk, modulusOk}
 use Rattle.ranges.proofs.Laws.{both-first, both-second, within-low, within-high}
 use Rattle.ranges.proofs.Counted.{below}

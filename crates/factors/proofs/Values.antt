@@ -1,18 +1,18 @@
 -- What callers that have judged the ranges need: each factor is its formula's value, and it is small.
-use mathlib.Core.Path.{_≡_, refl, sym, ap, _∙_}
-use mathlib.Core.Bool.{Bool, true, _&&_}
+use mathlib.Core.Path.{_≡_, ap, _∙_}
+use mathlib.Core.Bool.{true}
 use mathlib.Core.List.{List}
-use Prim.Native.Nat.{ℕ, _+_, _*_, _-_, _^_, _<_, _≤_}
-use native.Mathlib.Nat.{mul-le-mul, mul-assoc, mul-right-comm, mul-le-mul-right, le-trans, le-of-eq}
+use Prim.Native.Nat.{ℕ, _*_, _-_, _^_, _<_, _≤_}
+use native.Mathlib.Nat.{mul-le-mul, mul-right-comm, mul-le-mul-right, le-trans, le-of-eq}
 use native.Mathlib.Omega.{arith}
 use borrow.Author.Tests.{le-leb, lt-ltb}
 use lib.IntN.{ℤ}
 use lib.ListN.{length}
-use Rattle.refusals.specs.Told.{Told, done, refused}
+use Rattle.refusals.specs.Told.{done}
 use Rattle.refusals.proofs.Laws.{judged-fine, demand-holds, orElse-next, done-one, refusal-one, refused-number, refused-record}
 use Rattle.ranges.specs.Table.{temperatureOk, coefficientOk, pressureOk, compressibilityOk}
 use Rattle.ranges.proofs.Laws.{both-true, within-high}
-use Rattle.exact.specs.Rounding.{rounded, _over_}
+use Rattle.exact.specs.Rounding.{rounded}
 use Rattle.exact.proofs.Rounding.{at-most}
 use Rattle.factors.specs.Metal.{coefficientOf, metalOk}
 use Rattle.factors.specs.Places.{digits}
@@ -24,7 +24,7 @@ use Rattle.factors.specs.declared.Places.{Places}
 use Rattle.factors.specs.declared.Factor.{Factor}
 use Rattle.factors.specs.declared.Factor.the-variants.{Value, Refused}
 use Rattle.factors.proofs.Laws.{rounded-at-most-two}
-use Rattle.factors.proofs.Steel.{Warm, warm, parts, Loads, loads}
+use Rattle.factors.proofs.Steel.{warm, parts, Loads, loads}
 
 pub told-value : (f : Factor) {v : ℕ} → told f ≡ done v → valueOrZero f ≡ v
 told-value (Value x) is = done-one is

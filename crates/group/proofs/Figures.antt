@@ -1,12 +1,11 @@
 -- 01, 'Figures to hold against', for groups and means: equations of the definitions. Factors in 0.0001; places from 0, so that run 2 is place 1.
-use mathlib.Core.Path.{_≡_, refl, sym, _∙_}
-use mathlib.Core.Bool.{Bool, true, false}
-use mathlib.Core.Logic.{by-cases}
+use mathlib.Core.Path.{_≡_, refl}
+use mathlib.Core.Bool.{true, false}
 use mathlib.Core.List.{List, [], _∷_}
 use mathlib.Core.Option.{some}
-use Prim.Native.Nat.{ℕ, _*_, _-_, _≤_, _<_}
+use Prim.Native.Nat.{ℕ, _-_, _<_}
 use native.Mathlib.Omega.{arith}
-use lib.ListN.{length, getD}
+use lib.ListN.{length}
 use Rattle.exact.specs.Rounding.{roundedDiv}
 use Rattle.octets.specs.FirstToLast.{firstToLast, placeIf}
 use Rattle.group.specs.Mean.{sumOf, meanOf}

@@ -1,16 +1,14 @@
 -- The laws of hex: a digit, pairs of digits by their place, and bytes that are spelt and read back.
 use mathlib.Core.Path.{_≡_, refl, sym, ap, _∙_}
-use mathlib.Core.Bool.{Bool, true, false, cond, _&&_}
+use mathlib.Core.Bool.{true, false}
 use mathlib.Core.List.{List, [], _∷_, _++_}
-use Prim.Native.Nat.{ℕ, zero, suc, _+_, _*_, _-_, _/_, _%_, _≤_, _<_}
+use Prim.Native.Nat.{ℕ, zero, suc, _+_, _*_, _-_, _/_, _≤_, _<_}
 use native.Mathlib.Numerals.{add-one}
 use native.Mathlib.Omega.{arith}
-use native.Mathlib.Decide.{decLt}
-use borrow.Author.Tests.{lt-leb, le-leb, lt-ltb, le-ltb}
-use lib.Dec.{leb}
+use borrow.Author.Tests.{lt-leb, le-leb}
 use lib.ListN.{length, getD, take, drop, set, drop-of-length-le}
 use lib.Seq.{drop-cons, paste, paste-suc, length-paste, take-length}
-use Rattle.hex.specs.Hex.{hexOf, areHex, areBytes, bytesOf, pairOf, pairs, glyph, hexText}
+use Rattle.hex.specs.Hex.{hexOf, areHex, areBytes, bytesOf, pairOf, pairs}
 use Rattle.octets.specs.Octets.{writtenAt}
 use Rattle.octets.proofs.Laws.{written-fits}
 use Rattle.words.specs.Written.{placeAfter}

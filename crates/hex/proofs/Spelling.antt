@@ -9,7 +9,7 @@ use native.Mathlib.Nat.{lt-of-not-le}
 use native.Mathlib.Decide.{decLt}
 use borrow.Author.Tests.{lt-ltb, le-ltb, le-leb, eq-eqb, ne-eqb}
 use lib.ListN.{length, getD, take, drop, set}
-use lib.Seq.{paste, paste-suc, length-paste, take-length}
+use lib.Seq.{paste, paste-suc, take-length}
 use Rattle.octets.specs.Octets.{writtenAt}
 use Rattle.octets.proofs.Laws.{written-fits}
 use Rattle.hex.specs.Hex.{hexOf, pairOf, pairs, glyph, hexText, hexWord}

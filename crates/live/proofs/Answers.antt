@@ -1,6 +1,6 @@
 -- What the two singles' answers make of the reading's, and that `told` loses nothing.
 use mathlib.Core.Path.{_≡_, refl, sym, ap, _∙_, subst}
-use mathlib.Core.Bool.{Bool, true, false}
+use mathlib.Core.Bool.{Bool, true}
 use Prim.Native.Nat.{ℕ, _≤_}
 use lib.Dec.{T}
 use lib.IntN.{ℤ, pos, negsuc, natAbs}
@@ -10,7 +10,7 @@ use lib.Ieee.Scale.{finite}
 use Rattle.ranges.specs.Table.{temperatureOk, pressureOk}
 use Rattle.ranges.specs.Within.{withinSigned}
 use Rattle.ranges.proofs.Laws.{within-high}
-use Rattle.refusals.specs.Told.{Told, done, refused, Fault, fine, fault, demand, orElse, judged}
+use Rattle.refusals.specs.Told.{Told, done, refused, fine, demand, judged}
 use Rattle.refusals.proofs.Laws.{refusal-one, done-one, refused-number, refused-record, judged-fine, judged-fault, judged-was, judged-done, judged-refused, demand-was, orElse-next, orElse-first, orElse-fine-next}
 use Rattle.live.specs.declared.Live.{Live}
 use Rattle.live.specs.declared.Live.the-variants.{Whole, Refused}

@@ -1,12 +1,12 @@
 -- The C face loses nothing: two answers that flatten to the same struct are the same answer. A number of 0 means done, since no refusal has
 -- it; and the part that is handed out as start and length is the part that the accepted runs are.
 use mathlib.Core.Path.{_≡_, refl, sym, ap, _∙_}
-use mathlib.Core.List.{List, []}
+use mathlib.Core.List.{List}
 use Prim.Native.Nat.{ℕ}
 use native.Mathlib.Omega.{arith}
-use lib.IntN.{ℤ, pos, natAbs}
+use lib.IntN.{pos, natAbs}
 use lib.ListN.{take, drop}
-use Rattle.refusals.specs.Table.{numberOf, recordOf}
+use Rattle.refusals.specs.Table.{numberOf}
 use Rattle.refusals.specs.Told.{Told, done, refused}
 use Rattle.refusals.specs.declared.Refusal.{Refusal}
 use Rattle.refusals.specs.declared.Refusal.the-variants.{Records, UnnamedByte, ProverSetting, KFactorOrLimit, RecordField, PassRule, IndicatedVolume, RunFactor, NoGroup, TicketField, ClosingBelowOpening, ReadingNotFinite, ReadingRange, ReportBuffer, NotReport, BookNotSound, UnknownShipper, NumberZero, AlreadyWaiting, CeilingReached, CommonsFull, NotWaiting, NothingToTake}
@@ -40,7 +40,7 @@ use Rattle.ticket.specs.declared.Volumes.{Volumes}
 use Rattle.ticket.specs.declared.Outcome.{Outcome}
 use Rattle.ticket.specs.declared.Outcome.the-variants as outcome
 use Rattle.ticket.proofs.Laws.{told-one as ticket-one}
-use Rattle.live.specs.Live.{Values, told as toldLive}
+use Rattle.live.specs.Live.{told as toldLive}
 use Rattle.live.specs.declared.Live.{Live}
 use Rattle.live.specs.declared.Live.the-variants as live
 use Rattle.live.proofs.Answers.{told-one as live-one}

@@ -1,5 +1,4 @@
 -- One outcome (OneOutcome.antt) for the functions of the line program's grammar: the answer, and the bytes left in what was lent to be written.
-use mathlib.Core.Path.{_≡_}
 use Rattle.numerals.proofs.Numbers.{told-one as number-one}
 use Rattle.numerals.proofs.Signs.{signed-one}
 use Rattle.promises.proofs.OneOutcome.{OneAnswer, OneRead, OneLeft, same}

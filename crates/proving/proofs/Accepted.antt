@@ -1,15 +1,14 @@
 -- The accepted runs beside the job, given the same input, a 32-byte buffer and a request number that is not zero: they are empty exactly
 -- when the job refuses, and otherwise they are the 160 bytes from the report's first run on.
-use mathlib.Core.Path.{_≡_, refl, sym, ap, _∙_}
+use mathlib.Core.Path.{_≡_, sym, ap, _∙_}
 use mathlib.Core.Bool.{not}
 use mathlib.Core.List.{List, []}
-use mathlib.Core.Option.{Option}
-use Prim.Native.Nat.{ℕ, _+_, _*_, _-_, _/_, _≤_}
+use Prim.Native.Nat.{ℕ, _+_, _*_, _-_}
 use native.Mathlib.Omega.{arith}
 use borrow.Author.Tests.{ne-eqb}
 use lib.Dec.{eqb}
 use lib.ListN.{length, take, drop, length-take, length-drop}
-use Rattle.refusals.specs.Told.{Told, done, refused, Fault, fine, demand, orElse, judged}
+use Rattle.refusals.specs.Told.{Told, done, refused, Fault, demand, orElse}
 use Rattle.refusals.proofs.Laws.{demand-holds, orElse-next, judged-fine, judged-fault, judged-was, judged-done, judged-refused}
 use Rattle.factors.specs.declared.Prover.{Prover}
 use Rattle.report.specs.Judged.{reportOf}

@@ -1,27 +1,24 @@
 -- What it says of the input that judging found no fault, and what it says of the runs that a qualifying five was found.
 use mathlib.Core.Path.{_≡_, refl, sym, ap, _∙_}
-use mathlib.Core.Bool.{Bool, true, false, not, _&&_}
-use mathlib.Core.List.{List, [], _∷_}
+use mathlib.Core.Bool.{true, not, _&&_}
+use mathlib.Core.List.{List}
 use mathlib.Core.Option.{Option, none, some}
-use Prim.Native.Nat.{ℕ, zero, suc, _+_, _*_, _/_, _%_, _<_, _≤_}
+use Prim.Native.Nat.{ℕ, _+_, _*_, _/_, _%_, _<_, _≤_}
 use native.Mathlib.Omega.{arith}
-use borrow.Author.Tests.{eqb-true, eq-eqb, ne-eqb, le-leb}
-use lib.Dec.{eqb, leb}
+use borrow.Author.Tests.{eqb-true, ne-eqb, le-leb}
+use lib.Dec.{eqb}
 use lib.ListN.{length, getD, take, length-take}
 use lib.Seq.{ext-getD, getD-take}
-use Rattle.refusals.specs.Told.{Told, done, refused, Fault, fine, fault, demand, demandAt, orElse, judged}
+use Rattle.refusals.specs.Told.{done, fine, demand, demandAt, orElse, judged}
 use Rattle.refusals.proofs.Laws.{demand-holds, demand-was, demandAt-was, orElse-fine-first, orElse-fine-next, orElse-next, judged-fine, judged-was, judged-done}
 use Rattle.octets.specs.FirstToLast.{scan}
 use Rattle.octets.proofs.FirstToLast.{faults, empty}
 use Rattle.ranges.specs.Table.{runsOk, kFactorOk, limitOk, volumeOk, runFactorOk}
 use Rattle.ranges.proofs.Laws.{both-first, both-second, both-true, within-low, within-high, within-true}
 use Rattle.factors.specs.declared.Prover.{Prover}
-use Rattle.group.specs.Repeatability.{firstGroup}
 use Rattle.group.proofs.Groups.{FirstGroup, first-found}
 use Rattle.report.specs.Record.{listOf}
-use Rattle.report.specs.Judged.{factorsOk, firstOk, jobOk, reportOf, writeOf}
-use Rattle.report.specs.declared.Factors.{Factors}
-use Rattle.report.specs.declared.Report.{Report}
+use Rattle.report.specs.Judged.{factorsOk, firstOk, jobOk, writeOf}
 use Rattle.run.specs.Record.{runAt, fieldsOk}
 use Rattle.run.specs.Figures.{figuresOf}
 use Rattle.run.specs.Answers.{proverOk, figuresFault}

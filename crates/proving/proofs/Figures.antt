@@ -1,9 +1,9 @@
 -- 01, 'Figures to hold against': the run of the paper proved five times over, from its bytes.
 use mathlib.Core.Path.{_≡_, refl}
-use mathlib.Core.List.{List, [], _∷_, _++_}
+use mathlib.Core.List.{List, _∷_, _++_}
 use Prim.Native.Nat.{ℕ}
-use lib.ListN.{take, drop, replicate}
-use Rattle.refusals.specs.Told.{Told, done, refused}
+use lib.ListN.{replicate}
+use Rattle.refusals.specs.Told.{done, refused}
 use Rattle.ranges.specs.Table.{temperatureOk, pressureOk, coefficientOk, modulusOk, diameterOk, wallOk, compressibilityOk, ctlOk, runFactorOk, volumeOk, pulsesOk, kFactorOk, limitOk, runsOk}
 use Rattle.exact.specs.Rounding.{roundedDiv, rounded}
 use Rattle.octets.specs.Octets.{numberAt, wordAt, longAt, signedAt, signedOf, zeroBetween, isZeroAt}
@@ -17,7 +17,6 @@ use Rattle.group.specs.Repeatability.{smallest, largest, qualifies, groupAt, qu
 use Rattle.group.specs.Mean.{sumOf, meanOf}
 use Rattle.report.specs.Record.{listOf}
 use Rattle.report.specs.Judged.{reportOf}
-use Rattle.report.specs.declared.Report.{Report}
 use Rattle.run.specs.Record.{runAt, sideOk, fieldsOk, unnamedOk}
 use Rattle.run.specs.Figures.{indicated, steelCts, steelCps, liquidCpl, correctedBy, atProver, atMeter, figuresFrom, figuresOf}
 use Rattle.run.specs.Answers.{proverOk, figuresFault}

@@ -1,21 +1,20 @@
 -- A run's answer as a fault and a factor, arrays filled from the front, and the order of judging.
-use mathlib.Core.Path.{_≡_, refl, sym, ap, _∙_, subst}
+use mathlib.Core.Path.{_≡_, refl, sym, ap, _∙_}
 use mathlib.Core.Logic.{by-cases}
-use mathlib.Core.Bool.{Bool, true}
-use mathlib.Core.List.{List, [], _∷_}
-use Prim.Native.Nat.{ℕ, zero, suc, _+_, _*_, _<_, _≤_}
+use mathlib.Core.Bool.{true}
+use mathlib.Core.List.{List}
+use Prim.Native.Nat.{ℕ, zero, suc, _+_, _*_, _<_}
 use native.Mathlib.Decide.{decLt}
 use native.Mathlib.Omega.{arith}
 use lib.ListN.{length, getD, set}
 use lib.Seq.{getD-set-same, getD-set-other}
-use Rattle.refusals.specs.Told.{Told, done, refused, Fault, fine, fault, demand, demandAt, orElse, judged}
+use Rattle.refusals.specs.Told.{done, refused, Fault, fine, fault, judged}
 use Rattle.refusals.proofs.Laws.{done-one, refused-number, refused-record, demand-holds, demandAt-holds, orElse-next}
 use Rattle.ranges.specs.Table.{kFactorOk}
 use Rattle.factors.specs.declared.Prover.{Prover}
 use Rattle.run.specs.Record.{runAt, fieldsOk}
 use Rattle.run.specs.Figures.{figuresOf}
-use Rattle.run.specs.Answers.{proverOk, figuresFault, workedOf, factorOnly}
-use Rattle.run.specs.declared.Run.{Run}
+use Rattle.run.specs.Answers.{proverOk, workedOf, factorOnly}
 use Rattle.run.specs.declared.Figures.{Figures}
 use Rattle.proving.specs.Judging.{runFault}
 use Rattle.proving.specs.Job.{factorAt, listed}

@@ -1,4 +1,4 @@
--- 01, 'Units and ranges': the table, a line for each quantity, in its order.
+-- 01, 'Units and ranges': the table, a line for each quantity, in its order; then the ranges that 'Records' and 'Ticket' add.
 use mathlib.Core.Bool.{Bool}
 use Prim.Native.Nat.{ℕ}
 use lib.IntN.{ℤ, pos, negℤ}
@@ -79,3 +79,23 @@ passesOk = within 3 20
 -- fills in a draw
 unfoldable pub fillsOk : ℕ → Bool
 fillsOk = within 3 60
+
+-- 'Records', the fill: certified volume, 0.01 cubic inch
+unfoldable pub certifiedOk : ℕ → Bool
+certifiedOk = within 20000 100000000
+
+-- 'Records', the fill: scale reading, 0.01 cubic inch
+unfoldable pub scaleOk : ℤ → Bool
+scaleOk = withinSigned (negℤ (pos 10000)) (pos 10000)
+
+-- 'Ticket': a meter's reading, 0.01 barrel
+unfoldable pub readingOk : ℕ → Bool
+readingOk = within 0 99999999
+
+-- 'Ticket': the supplied meter factor, 0.0001
+unfoldable pub meterFactorOk : ℕ → Bool
+meterFactorOk = within 8000 12000
+
+-- 'Ticket': sediment and water S, 0.001 %
+unfoldable pub sedimentOk : ℕ → Bool
+sedimentOk = within 0 100000

@@ -1,7 +1,9 @@
 // The paper's table of numbers given back (01, 'Numbers given back') as one enum: a case for each
 // number. A case that the table stars carries the record at fault, counted from 1.
 ghost use mathlib.Core.Path.{_≡_};
-ghost use Rattle.refusals.specs.Table.{givenBack};
+ghost use Rattle.refusals.specs.Table.{numberOf, recordOf, givenBack};
+ghost use Rattle.refusals.specs.Told.{demandAt, orElse};
+ghost use Rattle.refusals.specs.Verdict.{faultOf};
 
 pub enum Refusal {
     // 1: lent records not whole, or too few or many
@@ -52,6 +54,12 @@ pub enum Refusal {
     NothingToTake,
 }
 
+// What judging finds: nothing, or why the caller is refused.
+pub enum Verdict {
+    Fine,
+    Refused(Refusal),
+}
+
 // What the caller is given back: the table's number, and the record at fault, from 1, or 0 where
 // the table carries none.
 pub struct GivenBack {
@@ -86,5 +94,26 @@ pub fn give_back(refusal: Refusal) -> GivenBack
         Refusal::CommonsFull => GivenBack { number: 25, at: 0 },
         Refusal::NotWaiting => GivenBack { number: 26, at: 0 },
         Refusal::NothingToTake => GivenBack { number: 27, at: 0 },
+    }
+}
+
+// The refusal, unless what the paper demands holds.
+pub fn demand(holds: bool, refusal: Refusal) -> Verdict
+    ensures { λ r. ⌜ faultOf r ≡ demandAt holds (numberOf refusal) (recordOf refusal) ⌝ }
+{
+    if holds {
+        Verdict::Fine
+    } else {
+        Verdict::Refused(refusal)
+    }
+}
+
+// The paper's order: the first refusal found is the one given.
+pub fn or_else(first: Verdict, next: Verdict) -> Verdict
+    ensures { λ r. ⌜ faultOf r ≡ orElse (faultOf first) (faultOf next) ⌝ }
+{
+    match first {
+        Verdict::Fine => next,
+        Verdict::Refused(_) => first,
     }
 }

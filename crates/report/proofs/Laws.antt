@@ -1,13 +1,13 @@
 -- The writer's and the reader's answers, case by case; and that an answer told is the answer.
 use mathlib.Core.Path.{_≡_, refl, ap}
-use mathlib.Core.Bool.{Bool, true, false}
+use mathlib.Core.Bool.{true, false}
 use mathlib.Core.List.{List}
 use Prim.Native.Nat.{ℕ}
 use borrow.Author.Tests.{eq-eqb, ne-eqb}
 use lib.ListN.{length}
 use Rattle.octets.specs.Octets.{bytesOf}
 use Rattle.refusals.proofs.Laws.{refusal-one, done-one, refused-number, refused-record}
-use Rattle.refusals.specs.Told.{done, refused, Fault, fine, fault, demand, orElse, judged}
+use Rattle.refusals.specs.Told.{done, refused}
 use Rattle.report.specs.Judged.{jobOk, isReport, reportOf, writeOf, readOf, told}
 use Rattle.report.specs.Record.{listOf, fieldsOf, bytesOfReport}
 use Rattle.report.specs.declared.Answer.{Answer}

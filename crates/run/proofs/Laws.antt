@@ -1,8 +1,8 @@
 -- What a run's record and ranges say, and the magnitudes of its figures.
-use mathlib.Core.Path.{_≡_, refl, sym, ap, _∙_}
-use mathlib.Core.Bool.{Bool, true, false, _&&_}
+use mathlib.Core.Path.{_≡_, sym, ap, _∙_}
+use mathlib.Core.Bool.{true, _&&_}
 use mathlib.Core.List.{List, [], _∷_}
-use Prim.Native.Nat.{ℕ, _+_, _*_, _^_, _<_, _≤_}
+use Prim.Native.Nat.{ℕ, _+_, _≤_}
 use native.Mathlib.Nat.{mul-le-mul}
 use native.Mathlib.Omega.{arith}
 use lib.ListN.{length}
@@ -14,7 +14,7 @@ use Rattle.ranges.proofs.Laws.{both-first, both-second, within-high}
 use Rattle.exact.specs.Rounding.{rounded}
 use Rattle.factors.specs.Metal.{metalOk}
 use Rattle.factors.specs.Answers.{pipeOk}
-use Rattle.factors.specs.Fractions.{productOf, combined}
+use Rattle.factors.specs.Fractions.{combined}
 use Rattle.factors.specs.declared.Prover.{Prover}
 use Rattle.factors.proofs.Values.{combined-small}
 use Rattle.run.specs.Record.{runAt, sideOk, fieldsOk}

@@ -2,7 +2,7 @@
 use mathlib.Core.Path.{_≡_, refl}
 use Prim.Native.Nat.{ℕ}
 use lib.IntN.{pos}
-use Rattle.refusals.specs.Told.{Told, done, refused}
+use Rattle.refusals.specs.Told.{done, refused}
 use Rattle.ranges.specs.Table.{temperatureOk, pressureOk, coefficientOk, modulusOk, diameterOk, wallOk, compressibilityOk, ctlOk, runFactorOk, volumeOk, pulsesOk, kFactorOk}
 use Rattle.exact.specs.Rounding.{roundedDiv, rounded}
 use Rattle.factors.specs.Metal.{metalOk}

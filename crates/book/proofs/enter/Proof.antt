@@ -13,9 +13,6 @@ use Rattle.book.proofs.enter.Tie as tie
 told : (c : tie.Start) → Accepted (c .args .t1) (c .args .shipper) (c .args .number)
 told c = accepted (c .args .t1) (c .args .shipper) (c .args .number) (c .pre)
 
-mul-lengthen : tie.Need-mul-lengthen
-mul-lengthen c = omega arith
-
 element-copy-out-lengthen : tie.Need-element-copy-out-lengthen
 element-copy-out-lengthen c = told c .call .known
 
@@ -29,9 +26,6 @@ lengthen-requires c κs =
     let few = at-count b (shaped b _ (a .good .0)) lines (a .args .shipper) known in
     (omega arith, line-unused 8 (lineAt b (a .args .shipper)) (at-sound b (shaped b _ (a .good .0)) lines (a .args .shipper) known))
 
-mul-longer : tie.Need-mul-longer
-mul-longer c = omega arith
-
 element-set-from-longer : tie.Need-element-set-from-longer
 element-set-from-longer c = told (c .before .before) .call .known
 
@@ -42,12 +36,4 @@ returns c =
     ap (λ (line : Line). record { lines = set (a .args .t1 .lines) (a .args .shipper) line; last = a .args .t1 .last }) (c .lengthen .ensures)
 
 pub enter-spec : {M : Type 1} → statement M
-enter-spec =
-    tie.close
-    (tie.spec
-    mul-lengthen
-    element-copy-out-lengthen
-    lengthen-requires
-    mul-longer
-    element-set-from-longer
-    returns)
+enter-spec = tie.close (tie.spec (λ c. omega arith) element-copy-out-lengthen lengthen-requires (λ c. omega arith) element-set-from-longer returns)

@@ -17,9 +17,6 @@ use Rattle.book.proofs.remove.Tie as tie
 told : (c : tie.Start) → Granted (c .args .t1) (c .args .shipper) (c .args .number)
 told c = granted (c .args .t1) (c .args .shipper) (c .args .number) (c .pre)
 
-mul-line : tie.Need-mul-line
-mul-line c = omega arith
-
 element-copy-out-line : tie.Need-element-copy-out-line
 element-copy-out-line c = told c .call .known
 
@@ -40,9 +37,6 @@ shorten-requires c κs =
     let here = place-told b (shaped b _ (a .good .0)) lines (a .args .shipper) (told a .call .known) (a .args .number) _ (c .place .ensures) (told a .waits) in
     (omega arith, here, line-unused 8 (lineAt b (a .args .shipper)) (at-sound b (shaped b _ (a .good .0)) lines (a .args .shipper) (told a .call .known)))
 
-mul-shorter : tie.Need-mul-shorter
-mul-shorter c = omega arith
-
 element-set-from-shorter : tie.Need-element-set-from-shorter
 element-set-from-shorter c = told (c .before .before .before) .call .known
 
@@ -58,11 +52,4 @@ returns c =
 pub remove-spec : {M : Type 1} → statement M
 remove-spec =
     tie.close
-    (tie.spec
-    mul-line
-    element-copy-out-line
-    place-requires
-    shorten-requires
-    mul-shorter
-    element-set-from-shorter
-    returns)
+    (tie.spec (λ c. omega arith) element-copy-out-line place-requires shorten-requires (λ c. omega arith) element-set-from-shorter returns)

@@ -16,9 +16,6 @@ enum-told c = search needs
 enter-requires : tie.Need-enter-requires
 enter-requires c κs = sym (c .before .before .judge-request .ensures) ∙ ap toldChange (c .enum-told .given .1)
 
-enum-told-2 : tie.Need-enum-told-2
-enum-told-2 c = search needs
-
 returns : tie.Need-returns
 unfolding afterRequest
 returns c =
@@ -32,6 +29,4 @@ returns-2 c =
     (j .judge-request .ensures, sym (unchanged _ _ (sym (j .judge-request .ensures) ∙ ap toldChange (c .enum-told2 .given .1))))
 
 pub request-spec : {M : Type 1} → statement M
-request-spec =
-    tie.close
-    (tie.spec judge-request-requires enum-told enter-requires enum-told-2 returns returns-2)
+request-spec = tie.close (tie.spec judge-request-requires enum-told enter-requires (search needs) returns returns-2)

@@ -14,9 +14,6 @@ use Rattle.book.proofs.Shape.{shaped}
 use Rattle.book.proofs.serve.Statement.{statement}
 use Rattle.book.proofs.serve.Tie as tie
 
-mul-shorten : tie.Need-mul-shorten
-mul-shorten c = omega arith
-
 element-copy-out-shorten : tie.Need-element-copy-out-shorten
 element-copy-out-shorten c = c .pre .1
 
@@ -31,9 +28,6 @@ shorten-requires c κs =
     let some : 0 < has b (a .args .shipper) = ltb-true _ _ (a .pre .2) in
     (omega arith, omega arith, line-unused 8 (lineAt b (a .args .shipper)) (at-sound b (shaped b _ (a .good .0)) lines (a .args .shipper) (a .pre .1)))
 
-mul-shorter : tie.Need-mul-shorter
-mul-shorter c = omega arith
-
 element-set-from-shorter : tie.Need-element-set-from-shorter
 element-set-from-shorter c = c .before .before .pre .1
 
@@ -45,12 +39,4 @@ returns c =
     (c .shorten .ensures ∙ ap lineOf (given-up-first (waiting (lineAt (a .args .t1) (a .args .shipper)))))
 
 pub serve-spec : {M : Type 1} → statement M
-serve-spec =
-    tie.close
-    (tie.spec
-    mul-shorten
-    element-copy-out-shorten
-    shorten-requires
-    mul-shorter
-    element-set-from-shorter
-    returns)
+serve-spec = tie.close (tie.spec (λ c. omega arith) element-copy-out-shorten shorten-requires (λ c. omega arith) element-set-from-shorter returns)

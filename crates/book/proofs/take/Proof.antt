@@ -19,9 +19,6 @@ handed c = handed-out (c .before .before .before .args .book) (sym (c .before .b
 judge-take-requires : tie.Need-judge-take-requires
 judge-take-requires c κs = tt
 
-enum-known-answer : tie.Need-enum-known-answer
-enum-known-answer c = search needs
-
 serve-requires : tie.Need-serve-requires
 serve-requires c κs =
     let b = c .before .before .before .before .args .book in
@@ -49,6 +46,4 @@ returns-2 c =
     (j .judge-take .ensures, sym (unchanged _ _ (sym (j .judge-take .ensures) ∙ ap toldTake (c .enum-told .given .1))))
 
 pub take-spec : {M : Type 1} → statement M
-take-spec =
-    tie.close
-    (tie.spec judge-take-requires enum-known-answer serve-requires enum-told returns returns-2)
+take-spec = tie.close (tie.spec judge-take-requires (search needs) serve-requires enum-told returns returns-2)

@@ -16,9 +16,6 @@ enum-told c = search needs
 remove-requires : tie.Need-remove-requires
 remove-requires c κs = sym (c .before .before .judge-withdrawal .ensures) ∙ ap toldChange (c .enum-told .given .1)
 
-enum-told-2 : tie.Need-enum-told-2
-enum-told-2 c = search needs
-
 returns : tie.Need-returns
 unfolding afterWithdrawal
 returns c =
@@ -32,6 +29,4 @@ returns-2 c =
     (j .judge-withdrawal .ensures, sym (unchanged _ _ (sym (j .judge-withdrawal .ensures) ∙ ap toldChange (c .enum-told2 .given .1))))
 
 pub withdraw-spec : {M : Type 1} → statement M
-withdraw-spec =
-    tie.close
-    (tie.spec judge-withdrawal-requires enum-told remove-requires enum-told-2 returns returns-2)
+withdraw-spec = tie.close (tie.spec judge-withdrawal-requires enum-told remove-requires (search needs) returns returns-2)

@@ -6,21 +6,9 @@ use Rattle.draw.specs.Base.{barrelsOf, baseFrom}
 use Rattle.draw.proofs.base_from.Statement.{statement}
 use Rattle.draw.proofs.base_from.Tie as tie
 
-mean-requires : tie.Need-mean-requires
-mean-requires c κs = search needs
-
-in-barrels-requires : tie.Need-in-barrels-requires
-in-barrels-requires c κs = search needs
-
-add-t5 : tie.Need-add-t5
-add-t5 c = search needs
-
-cast-t6 : tie.Need-cast-t6
-cast-t6 c = search needs
-
 returns : tie.Need-returns
 unfolding baseFrom
 returns c = let base = c .before .mean .ensures in λ i. record { base = base i; barrels = (c .in-barrels .ensures ∙ ap barrelsOf base) i; first = c .before .before .before .args .at + 1 }
 
 pub base-from-spec : {M : Type 1} → statement M
-base-from-spec = tie.close (tie.spec mean-requires in-barrels-requires add-t5 cast-t6 returns)
+base-from-spec = tie.close (tie.spec (search needs) (search needs) (search needs) (search needs) returns)

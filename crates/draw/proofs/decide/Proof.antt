@@ -20,23 +20,11 @@ place c = sym (c .before .before .before .first-group .ensures) ∙ ap placeOf (
 inside : (c : tie.After-known-told) → (c .before .found .given .0 .0 + 3 ≤ length (c .before .before .before .before .before .args .volumes .now)) × (length (c .before .before .before .before .before .args .volumes .now) ≤ 20)
 inside c = let s = c .before .before .before .before .before in (first-found 2 3 (s .args .volumes .now) (place c) .within, s .pre)
 
-first-group-requires : tie.Need-first-group-requires
-first-group-requires c κs = search needs
-
-enum-known-found : tie.Need-enum-known-found
-enum-known-found c = search needs
-
 add-three : tie.Need-add-three
 add-three c = omega (arith, inside c)
 
 mul-three : tie.Need-mul-three
 mul-three c = omega (arith, inside c)
-
-sub-three : tie.Need-sub-three
-sub-three c = search needs
-
-part-three-start : tie.Need-part-three-start
-part-three-start c = search needs
 
 part-three-end : tie.Need-part-three-end
 part-three-end c = omega (arith, inside c)
@@ -61,15 +49,5 @@ returns-2 c = let g = c .before .before in sym (ap (decidedBy (g .before .before
 pub decide-spec : {M : Type 1} → statement M
 decide-spec =
     tie.close
-    (tie.spec
-    first-group-requires
-    enum-known-found
-    add-three
-    mul-three
-    sub-three
-    part-three-start
-    part-three-end
-    base-from-requires
-    enum-told
-    returns
+    (tie.spec (search needs) (search needs) add-three mul-three (search needs) (search needs) part-three-end base-from-requires enum-told returns
     returns-2)

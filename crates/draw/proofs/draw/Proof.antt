@@ -17,15 +17,6 @@ found c =
 used-length : (c : tie.After-known-told) → length (take (c .before .answer .given .0 .0) (c .before .before .before .passes .result .volumes)) ≡ c .before .answer .given .0 .0
 used-length c = let f = found c in length-take-le (c .before .answer .given .0 .0) (c .before .before .before .passes .result .volumes) (omega (arith, f .few, f .places))
 
-passes-requires : tie.Need-passes-requires
-passes-requires c κs = search needs
-
-enum-known-answer : tie.Need-enum-known-answer
-enum-known-answer c = search needs
-
-cast-end : tie.Need-cast-end
-cast-end c = search needs
-
 array-share-prefix-volumes : tie.Need-array-share-prefix-volumes
 array-share-prefix-volumes c = let f = found (c .before) in omega (arith, f .few, f .places)
 
@@ -34,9 +25,6 @@ slice-aggregate-decide c = sym (used-length (c .before .before))
 
 decide-requires : tie.Need-decide-requires
 decide-requires c κs = let k = c .before .before in omega (arith, used-length k, found k .few)
-
-enum-known-answer-2 : tie.Need-enum-known-answer-2
-enum-known-answer-2 c = search needs
 
 returns : tie.Need-returns
 returns c =
@@ -55,13 +43,5 @@ returns-2 c =
 pub draw-spec : {M : Type 1} → statement M
 draw-spec =
     tie.close
-    (tie.spec
-    passes-requires
-    enum-known-answer
-    cast-end
-    array-share-prefix-volumes
-    slice-aggregate-decide
-    decide-requires
-    enum-known-answer-2
-    returns
+    (tie.spec (search needs) (search needs) (search needs) array-share-prefix-volumes slice-aggregate-decide decide-requires (search needs) returns
     returns-2)

@@ -12,17 +12,8 @@ use Rattle.draw.proofs.Sound.{record-fields}
 use Rattle.draw.proofs.fill.Statement.{statement}
 use Rattle.draw.proofs.fill.Tie as tie
 
-is-metal-requires : tie.Need-is-metal-requires
-is-metal-requires c κs = search needs
-
-judge-record-requires : tie.Need-judge-record-requires
-judge-record-requires c κs = search needs
-
 enum-told : tie.Need-enum-told
 enum-told c = search needs
-
-read-requires : tie.Need-read-requires
-read-requires c κs = search needs
 
 work-out-requires : tie.Need-work-out-requires
 work-out-requires c κs =
@@ -30,9 +21,6 @@ work-out-requires c κs =
     let j = t .before .before in
     let m = j .before in
     (sym (m .before .is-metal .ensures) ∙ m .if2 .taken, ap fieldsOk (c .read .ensures) ∙ record-fields (m .before .before .before .before .args .bytes .now) 0 (sym (j .judge-record .ensures) ∙ ap faultOf (t .enum-told .given .1)))
-
-enum-known-verdict : tie.Need-enum-known-verdict
-enum-known-verdict c = search needs
 
 returns : tie.Need-returns
 unfolding fillOf
@@ -69,14 +57,4 @@ returns-4 c = sym (judged-fault _ (orElse-first _ (demand-fails 1 (ne-eqb (lengt
 pub fill-spec : {M : Type 1} → statement M
 fill-spec =
     tie.close
-    (tie.spec
-    is-metal-requires
-    judge-record-requires
-    enum-told
-    read-requires
-    work-out-requires
-    enum-known-verdict
-    returns
-    returns-2
-    returns-3
-    returns-4)
+    (tie.spec (search needs) (search needs) enum-told (search needs) work-out-requires (search needs) returns returns-2 returns-3 returns-4)

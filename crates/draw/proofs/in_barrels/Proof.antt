@@ -10,12 +10,6 @@ use Rattle.draw.specs.Base.{barrelsOf}
 use Rattle.draw.proofs.in_barrels.Statement.{statement}
 use Rattle.draw.proofs.in_barrels.Tie as tie
 
-rounded-ratio-requires : tie.Need-rounded-ratio-requires
-rounded-ratio-requires c κs = search needs
-
-value-or-zero-requires : tie.Need-value-or-zero-requires
-value-or-zero-requires c κs = search needs
-
 returns : tie.Need-returns
 unfolding barrelsOf rounded
 returns c =
@@ -23,4 +17,4 @@ returns c =
     c .value-or-zero .ensures ∙ ap valueOrZero (c .before .rounded-ratio .ensures) ∙ value-below (s .args .base * 10000) (omega arith) (s .args .base) (omega arith) (s .fits .base .fits)
 
 pub in-barrels-spec : {M : Type 1} → statement M
-in-barrels-spec = tie.close (tie.spec rounded-ratio-requires value-or-zero-requires returns)
+in-barrels-spec = tie.close (tie.spec (search needs) (search needs) returns)

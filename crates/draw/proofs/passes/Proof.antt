@@ -17,9 +17,6 @@ nothing c = sym (c .before .before .judge-draw .ensures) ∙ ap faultOf (c .enum
 good : (c : tie.After-enum-told) → Sound (c .before .before .before .before .args .prover) (c .before .before .before .before .args .records .now)
 good c = sound (c .before .before .before .before .args .prover) (c .before .before .before .before .args .records .now) (nothing c)
 
-judge-draw-requires : tie.Need-judge-draw-requires
-judge-draw-requires c κs = search needs
-
 enum-told : tie.Need-enum-told
 enum-told c = search needs
 
@@ -28,9 +25,6 @@ count-passes-requires c κs = let w = good c in (omega (arith, w .some-fills), w
 
 collect-requires : tie.Need-collect-requires
 collect-requires c κs = let e = c .before in (nothing e, omega (arith, c .count-passes .ensures, good e .few-passes))
-
-enum-known-verdict : tie.Need-enum-known-verdict
-enum-known-verdict c = search needs
 
 returns : tie.Need-returns
 unfolding passesOf
@@ -51,13 +45,4 @@ returns-2 c =
     (sym is, sym (ap (heldFor (a .prover) (a .records .now)) is))
 
 pub passes-spec : {M : Type 1} → statement M
-passes-spec =
-    tie.close
-    (tie.spec
-    judge-draw-requires
-    enum-told
-    count-passes-requires
-    collect-requires
-    enum-known-verdict
-    returns
-    returns-2)
+passes-spec = tie.close (tie.spec (search needs) enum-told count-passes-requires collect-requires (search needs) returns returns-2)

@@ -5,7 +5,6 @@ use native.Mathlib.Nat.{mul-le-mul, div-add-mod'}
 use native.Mathlib.Omega.{arith}
 use borrow.Author.Needs.{needs}
 use Rattle.exact.specs.Words.{wideOf}
-use Rattle.exact.specs.declared.Wide.{Wide}
 use Rattle.exact.proofs.Columns.{by-columns}
 use Rattle.exact.proofs.Words.{words-one}
 use Rattle.exact.proofs.product.Statement.{statement}
@@ -73,27 +72,8 @@ add-t12 c = record { fits = carried _ _ (digits (high (c .fits .a .fits)) (high 
 add-t14 : tie.Need-add-t14
 add-t14 c = record { fits = upper-fits (c .args .a) (c .args .b) (c .fits .a .fits) (c .fits .b .fits) _ _ (middle-fits (c .args .a) (c .args .b) (c .fits .a .fits) (c .fits .b .fits)) (next-fits (c .args .a) (c .args .b) (c .fits .a .fits) (c .fits .b .fits) _) }
 
-mul-t16 : tie.Need-mul-t16
-mul-t16 c = search needs
-
-add-t18 : tie.Need-add-t18
-add-t18 c = search needs
-
 returns : tie.Need-returns
 returns c = words-of (c .args .a) (c .args .b) (c .fits .a .fits) (c .fits .b .fits) _ _ _ refl refl refl
 
 pub product-spec : {M : Type 1} → statement M
-product-spec =
-    tie.close
-    (tie.spec
-    mul-low
-    mul-middle
-    add-middle
-    mul-next
-    add-next
-    mul-t10
-    add-t12
-    add-t14
-    mul-t16
-    add-t18
-    returns)
+product-spec = tie.close (tie.spec mul-low mul-middle add-middle mul-next add-next mul-t10 add-t12 add-t14 (search needs) (search needs) returns)

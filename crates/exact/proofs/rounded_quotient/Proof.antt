@@ -1,5 +1,4 @@
 -- `exact::rounded_quotient` meets its contract: each return is an answer of the whole quotient and its rest.
-use Prim.Native.Nat.{ℕ, _^_}
 use native.Mathlib.Omega.{arith}
 use Rattle.exact.specs.Words.{valueOf}
 use Rattle.exact.proofs.Answers.{no-divisor, upper-too-large, kept, raised, passed}
@@ -12,9 +11,6 @@ returns c = no-divisor _ (c .if1 .taken)
 returns-2 : tie.Need-returns-2
 unfolding valueOf
 returns-2 c = upper-too-large _ _ (omega arith) (c .if2 .taken)
-
-divide-requires : tie.Need-divide-requires
-divide-requires c κs = omega arith
 
 sub-if3 : tie.Need-sub-if3
 sub-if3 c = omega (arith, c .before .divide .ensures)
@@ -41,6 +37,4 @@ returns-5 c =
     raised (d .result .quotient) (d .ensures .0) (d .ensures .1) (c .before .before .before .if3 .left) (omega (arith, c .before .if4 .left, c .struct-known4 .given))
 
 pub rounded-quotient-spec : {M : Type 1} → statement M
-rounded-quotient-spec =
-    tie.close
-    (tie.spec returns returns-2 divide-requires sub-if3 returns-3 returns-4 add-t6 returns-5)
+rounded-quotient-spec = tie.close (tie.spec returns returns-2 (λ c κs. omega arith) sub-if3 returns-3 returns-4 add-t6 returns-5)

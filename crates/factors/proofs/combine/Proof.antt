@@ -1,11 +1,10 @@
 -- `factors::combine` meets its contract: two products of 32-bit factors fit a word each, and one division does the rest.
-use mathlib.Core.Path.{_≡_, ap, sym, _∙_}
+use mathlib.Core.Path.{ap, _∙_}
 use Prim.Native.Nat.{ℕ, _*_, _^_, _<_, _≤_}
 use native.Mathlib.Nat.{mul-le-mul}
 use native.Mathlib.Omega.{arith}
 use borrow.Author.Needs.{needs}
 use denote.Ref.{now}
-use lib.ListN.{length, getD}
 use Rattle.exact.specs.Quotient.{quotientOf}
 use Rattle.factors.specs.Answers.{heldBy}
 use Rattle.factors.specs.Places.{digits}
@@ -18,19 +17,10 @@ use Rattle.factors.proofs.combine.Tie as tie
 returns : tie.Need-returns
 returns c = too-many _ _ (c .if1 .taken)
 
-unit-requires : tie.Need-unit-requires
-unit-requires c κs = search needs
-
 returns-2 : tie.Need-returns-2
 returns-2 c =
     let a = c .before .before .before .before in
     ap Value (c .unit .ensures) ∙ none-combined _ _ (c .before .if2 .taken) (omega (arith, unit-large (a .args .places)))
-
-factor-at-requires : tie.Need-factor-at-requires
-factor-at-requires c κs = search needs
-
-factor-at-requires-2 : tie.Need-factor-at-requires-2
-factor-at-requires-2 c κs = search needs
 
 -- the product of two numbers of 32 bits
 pair : {x y : ℕ} → x < 2 ^ 32 → y < 2 ^ 32 → x * y ≤ 18446744065119617025
@@ -39,23 +29,8 @@ pair hx hy = mul-le-mul {n₂ = 4294967295} {m₂ = 4294967295} (omega arith) (o
 mul-first : tie.Need-mul-first
 mul-first c = omega (arith, pair (c .before .factor-at .ensures .1) (c .factor-at2 .ensures .1))
 
-factor-at-requires-3 : tie.Need-factor-at-requires-3
-factor-at-requires-3 c κs = search needs
-
-factor-at-requires-4 : tie.Need-factor-at-requires-4
-factor-at-requires-4 c κs = search needs
-
 mul-second : tie.Need-mul-second
 mul-second c = omega (arith, pair (c .before .factor-at3 .ensures .1) (c .factor-at4 .ensures .1))
-
-units-above-one-requires : tie.Need-units-above-one-requires
-units-above-one-requires c κs = search needs
-
-rounded-ratio-requires : tie.Need-rounded-ratio-requires
-rounded-ratio-requires c κs = search needs
-
-hold-requires : tie.Need-hold-requires
-hold-requires c κs = search needs
 
 returns-3 : tie.Need-returns-3
 returns-3 c =
@@ -71,17 +46,5 @@ returns-3 c =
 pub combine-spec : {M : Type 1} → statement M
 combine-spec =
     tie.close
-    (tie.spec
-    returns
-    unit-requires
-    returns-2
-    factor-at-requires
-    factor-at-requires-2
-    mul-first
-    factor-at-requires-3
-    factor-at-requires-4
-    mul-second
-    units-above-one-requires
-    rounded-ratio-requires
-    hold-requires
-    returns-3)
+    (tie.spec returns (search needs) returns-2 (search needs) (search needs) mul-first (search needs) (search needs) mul-second (search needs)
+    (search needs) (search needs) returns-3)

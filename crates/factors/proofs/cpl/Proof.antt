@@ -1,6 +1,6 @@
 -- `factors::cpl` meets its contract: within the ranges the divisor stays above 84,999,999.
-use mathlib.Core.Path.{_≡_, refl, ap, sym, _∙_}
-use mathlib.Core.Bool.{Bool, true, false, _&&_}
+use mathlib.Core.Path.{_≡_, ap, sym, _∙_}
+use mathlib.Core.Bool.{true, _&&_}
 use Prim.Native.Nat.{ℕ, _*_, _-_, _≤_}
 use native.Mathlib.Nat.{mul-le-mul}
 use native.Mathlib.Omega.{arith}
@@ -12,12 +12,6 @@ use Rattle.factors.specs.Fractions.{cpl}
 use Rattle.factors.specs.Answers.{told, cplOf}
 use Rattle.factors.proofs.cpl.Statement.{statement}
 use Rattle.factors.proofs.cpl.Tie as tie
-
-is-within-requires : tie.Need-is-within-requires
-is-within-requires c κs = search needs
-
-is-within-requires-2 : tie.Need-is-within-requires-2
-is-within-requires-2 c κs = search needs
 
 -- the code's test is the paper's two ranges
 judges : (c : tie.After-is-within2) → (c .before .is-within .result && c .is-within2 .result) ≡ (pressureOk (c .before .before .args .p) && compressibilityOk (c .before .before .args .f))
@@ -50,6 +44,4 @@ unfolding cplOf
 returns-2 c = sym (judged-fault _ (demand-fails 5 (sym (judges (c .before)) ∙ c .if1 .left)))
 
 pub cpl-spec : {M : Type 1} → statement M
-cpl-spec =
-    tie.close
-    (tie.spec is-within-requires is-within-requires-2 mul-round sub-round round-requires returns returns-2)
+cpl-spec = tie.close (tie.spec (search needs) (search needs) mul-round sub-round round-requires returns returns-2)

@@ -11,18 +11,6 @@ use Rattle.factors.proofs.Steel.{Loads, loads}
 use Rattle.factors.proofs.cps.Statement.{statement}
 use Rattle.factors.proofs.cps.Tie as tie
 
-is-pipe-requires : tie.Need-is-pipe-requires
-is-pipe-requires c κs = search needs
-
-is-within-requires : tie.Need-is-within-requires
-is-within-requires c κs = search needs
-
-cast-stiffness : tie.Need-cast-stiffness
-cast-stiffness c = search needs
-
-cast-stiffness-2 : tie.Need-cast-stiffness-2
-cast-stiffness-2 c = search needs
-
 -- the code's tests are the paper's ranges
 pipe-fits : (c : tie.Then1) → pipeOk (c .before .before .args .pipe) ≡ true
 pipe-fits c = sym (c .before .is-pipe .ensures) ∙ c .if1 .taken
@@ -39,9 +27,6 @@ at-round c = loads (pipe-fits (c .before .before)) (pressure-fits c)
 
 mul-stiffness : tie.Need-mul-stiffness
 mul-stiffness c = omega (arith, at-round (c .before .before))
-
-cast-round : tie.Need-cast-round
-cast-round c = search needs
 
 mul-round : tie.Need-mul-round
 mul-round c = omega (arith, at-round (c .before .before .before))
@@ -69,16 +54,5 @@ returns-3 c = sym (judged-fault _ (orElse-first _ (demand-fails 3 (sym (c .befor
 pub cps-spec : {M : Type 1} → statement M
 cps-spec =
     tie.close
-    (tie.spec
-    is-pipe-requires
-    is-within-requires
-    cast-stiffness
-    cast-stiffness-2
-    mul-stiffness
-    cast-round
-    mul-round
-    add-round
-    round-requires
-    returns
-    returns-2
-    returns-3)
+    (tie.spec (search needs) (search needs) (search needs) (search needs) mul-stiffness (search needs) mul-round add-round round-requires returns
+    returns-2 returns-3)

@@ -1,6 +1,6 @@
 -- `factors::cts` meets its contract: counted from -100.0 °F the temperature is a natural number, and the formula is the paper's.
 use mathlib.Core.Path.{_≡_, ap, sym, _∙_}
-use mathlib.Core.Bool.{Bool, true, false}
+use mathlib.Core.Bool.{true}
 use Prim.Native.Nat.{ℕ, _+_, _*_, _-_, _≤_}
 use native.Mathlib.Nat.{le-refl, mul-le-mul}
 use native.Mathlib.Omega.{arith}
@@ -23,18 +23,6 @@ use Rattle.factors.specs.Answers.{told, ctsOf}
 use Rattle.factors.proofs.Steel.{Warm, warm, parts}
 use Rattle.factors.proofs.cts.Statement.{statement}
 use Rattle.factors.proofs.cts.Tie as tie
-
-is-metal-requires : tie.Need-is-metal-requires
-is-metal-requires c κs = search needs
-
-is-within-signed-requires : tie.Need-is-within-signed-requires
-is-within-signed-requires c κs = search needs
-
-coefficient-requires : tie.Need-coefficient-requires
-coefficient-requires c κs = search needs
-
-cast-gc : tie.Need-cast-gc
-cast-gc c = search needs
 
 abbrev start : tie.Then2 → tie.Start
 start c = c .before .before .before .before
@@ -101,9 +89,6 @@ mul-round c = omega (arith, product c)
 add-round : tie.Need-add-round
 add-round c = omega (arith, product c)
 
-mul-round-2 : tie.Need-mul-round-2
-mul-round-2 c = search needs
-
 sub-round : tie.Need-sub-round
 sub-round c = omega (arith, product c)
 
@@ -128,18 +113,5 @@ returns-3 c = sym (judged-fault _ (orElse-first _ (demand-fails 3 (sym (c .befor
 pub cts-spec : {M : Type 1} → statement M
 cts-spec =
     tie.close
-    (tie.spec
-    is-metal-requires
-    is-within-signed-requires
-    coefficient-requires
-    cast-gc
-    add-above
-    cast-above
-    mul-round
-    add-round
-    mul-round-2
-    sub-round
-    round-requires
-    returns
-    returns-2
-    returns-3)
+    (tie.spec (search needs) (search needs) (search needs) (search needs) add-above cast-above mul-round add-round (search needs) sub-round
+    round-requires returns returns-2 returns-3)

@@ -1,18 +1,12 @@
 -- `factors::factor_at` meets its contract: an element of the slice has 32 bits.
 use native.Mathlib.Omega.{arith}
-use mathlib.Core.Path.{_≡_, sym}
+use mathlib.Core.Path.{sym}
 use borrow.Author.Needs.{needs}
 use denote.Ref.{now}
 use lib.ListN.{List·getD-eq-default}
 use Rattle.factors.proofs.Combining.{there}
 use Rattle.factors.proofs.factor_at.Statement.{statement}
 use Rattle.factors.proofs.factor_at.Tie as tie
-
-mul-result : tie.Need-mul-result
-mul-result c = search needs
-
-shared-slice-read-result : tie.Need-shared-slice-read-result
-shared-slice-read-result c = search needs
 
 cast-result : tie.Need-cast-result
 cast-result c = omega (arith, c .shared-slice-known .given (c .before .before .args .i))
@@ -24,4 +18,4 @@ returns-2 : tie.Need-returns-2
 returns-2 c = (sym (List·getD-eq-default (now (c .before .args .factors)) 1 (c .if1 .left)), omega arith)
 
 pub factor-at-spec : {M : Type 1} → statement M
-factor-at-spec = tie.close (tie.spec mul-result shared-slice-read-result cast-result returns returns-2)
+factor-at-spec = tie.close (tie.spec (search needs) (search needs) cast-result returns returns-2)

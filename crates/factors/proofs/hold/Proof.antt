@@ -6,14 +6,8 @@ use Rattle.factors.specs.Answers.{heldBy}
 use Rattle.factors.proofs.hold.Statement.{statement}
 use Rattle.factors.proofs.hold.Tie as tie
 
-enum-known-quotient : tie.Need-enum-known-quotient
-enum-known-quotient c = search needs
-
 enum-told : tie.Need-enum-told
 enum-told c = search needs
-
-enum-told-2 : tie.Need-enum-told-2
-enum-told-2 c = search needs
 
 arm : {quotient this : Quotient} → quotient ≡ this → heldBy this ≡ heldBy quotient
 arm is = sym (ap heldBy is)
@@ -28,4 +22,4 @@ returns-3 : tie.Need-returns-3
 returns-3 c = arm (c .enum-told2 .given .1)
 
 pub hold-spec : {M : Type 1} → statement M
-hold-spec = tie.close (tie.spec enum-known-quotient enum-told enum-told-2 returns returns-2 returns-3)
+hold-spec = tie.close (tie.spec (search needs) enum-told (search needs) returns returns-2 returns-3)

@@ -1,5 +1,5 @@
 -- `factors::is_metal` meets its contract.
-use mathlib.Core.Path.{_≡_, ap, _∙_}
+use mathlib.Core.Path.{ap, _∙_}
 use borrow.Author.Needs.{needs}
 use Rattle.ranges.specs.Within.{within}
 use Rattle.ranges.specs.Table.{coefficientOk}
@@ -7,18 +7,9 @@ use Rattle.factors.specs.Metal.{metalOk}
 use Rattle.factors.proofs.is_metal.Statement.{statement}
 use Rattle.factors.proofs.is_metal.Tie as tie
 
-coefficient-requires : tie.Need-coefficient-requires
-coefficient-requires c κs = search needs
-
-cast-is-within : tie.Need-cast-is-within
-cast-is-within c = search needs
-
-is-within-requires : tie.Need-is-within-requires
-is-within-requires c κs = search needs
-
 returns : tie.Need-returns
 unfolding metalOk coefficientOk
 returns c = c .is-within .ensures ∙ ap (within 100 400) (c .before .coefficient .ensures)
 
 pub is-metal-spec : {M : Type 1} → statement M
-is-metal-spec = tie.close (tie.spec coefficient-requires cast-is-within is-within-requires returns)
+is-metal-spec = tie.close (tie.spec (search needs) (search needs) (search needs) returns)

@@ -1,6 +1,6 @@
 -- `factors::round` meets its contract: a fraction of at most 2 is rounded within two words.
 use mathlib.Core.Path.{_≡_, ap, _∙_}
-use Prim.Native.Nat.{ℕ, _*_, _^_, _<_, _≤_}
+use Prim.Native.Nat.{ℕ, _*_}
 use native.Mathlib.Omega.{arith}
 use borrow.Author.Needs.{needs}
 use Rattle.exact.specs.Rounding.{rounded, _over_}
@@ -10,15 +10,6 @@ use Rattle.factors.specs.declared.Factor.the-variants.{Value}
 use Rattle.factors.proofs.Laws.{rounded-small, rounded-by-words}
 use Rattle.factors.proofs.round.Statement.{statement}
 use Rattle.factors.proofs.round.Tie as tie
-
-unit-requires : tie.Need-unit-requires
-unit-requires c κs = search needs
-
-rounded-ratio-requires : tie.Need-rounded-ratio-requires
-rounded-ratio-requires c κs = search needs
-
-value-or-zero-requires : tie.Need-value-or-zero-requires
-value-or-zero-requires c κs = search needs
 
 value : (c : tie.After-value-or-zero) → c .value-or-zero .result ≡ rounded (digits (c .before .before .before .args .places)) (c .before .before .before .args .num over c .before .before .before .args .den)
 value c =
@@ -34,4 +25,4 @@ returns : tie.Need-returns
 returns c = ap Value (value c)
 
 pub round-spec : {M : Type 1} → statement M
-round-spec = tie.close (tie.spec unit-requires rounded-ratio-requires value-or-zero-requires cast-t7 returns)
+round-spec = tie.close (tie.spec (search needs) (search needs) (search needs) cast-t7 returns)

@@ -10,9 +10,6 @@ use Rattle.factors.proofs.unit.Tie as tie
 enum-told : tie.Need-enum-told
 enum-told c = search needs
 
-enum-told-2 : tie.Need-enum-told-2
-enum-told-2 c = search needs
-
 tens : {places this : Places} → places ≡ this → 10 ^ digits this ≡ 10 ^ digits places
 tens is = sym (ap (λ (p : Places). 10 ^ digits p) is)
 
@@ -23,4 +20,4 @@ returns-2 : tie.Need-returns-2
 returns-2 c = tens (c .enum-told2 .given .1)
 
 pub unit-spec : {M : Type 1} → statement M
-unit-spec = tie.close (tie.spec enum-told enum-told-2 returns returns-2)
+unit-spec = tie.close (tie.spec enum-told (search needs) returns returns-2)

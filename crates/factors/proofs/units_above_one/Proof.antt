@@ -1,17 +1,12 @@
 -- `factors::units_above_one` meets its contract: each count has its power, and the largest is the cube of a million.
-use mathlib.Core.Path.{_≡_, sym, _∙_}
-use Prim.Native.Nat.{ℕ, _*_, _^_, _≤_, _<_}
+use Prim.Native.Nat.{_≤_}
 use native.Mathlib.Nat.{one-le-mul}
 use native.Mathlib.Omega.{arith}
 use borrow.Author.Needs.{needs}
-use Rattle.factors.specs.Places.{digits}
 use Rattle.factors.proofs.Laws.{unit-large, unit-above-zero}
 use Rattle.factors.proofs.Combining.{units-of-one, units-of-two, units-of-three, units-of-four, square-small, cube-small}
 use Rattle.factors.proofs.units_above_one.Statement.{statement}
 use Rattle.factors.proofs.units_above_one.Tie as tie
-
-unit-requires : tie.Need-unit-requires
-unit-requires c κs = search needs
 
 large : (c : tie.After-unit) → c .unit .result ≤ 1000000
 large c = omega (arith, c .unit .ensures, unit-large (c .before .args .places))
@@ -41,4 +36,4 @@ returns-4 : tie.Need-returns-4
 returns-4 c = let u = c .before .before .before in (units-of-four (u .unit .ensures) (omega arith), one-le-mul (one-le-mul (some u) (some u)) (some u))
 
 pub units-above-one-spec : {M : Type 1} → statement M
-units-above-one-spec = tie.close (tie.spec unit-requires mul-result mul-result-2 mul-result-3 returns returns-2 returns-3 returns-4)
+units-above-one-spec = tie.close (tie.spec (search needs) mul-result mul-result-2 mul-result-3 returns returns-2 returns-3 returns-4)

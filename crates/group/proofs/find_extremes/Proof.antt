@@ -16,40 +16,10 @@ Inv-loop values low₀ high₀ i₀ low high i = (smallest (low ∷ drop i value
 abbrev μ-loop : tie.MeasureT-loop
 μ-loop values low₀ high₀ i₀ low high i = length values - i
 
-shared-slice-read-low : tie.Need-shared-slice-read-low Inv-loop μ-loop
-shared-slice-read-low c = omega arith
-
-shared-slice-read-high : tie.Need-shared-slice-read-high Inv-loop μ-loop
-shared-slice-read-high c = omega arith
-
 loop-holds : tie.Need-loop-holds Inv-loop μ-loop
 loop-holds c =
     let xs = c .before .before .before .args .values .now in
     (begun smallest-gathered xs (c .before .before .before .pre), begun largest-gathered xs (c .before .before .before .pre))
-
-mul-lesser : tie.Need-mul-lesser Inv-loop μ-loop
-mul-lesser c = omega arith
-
-shared-slice-read-lesser : tie.Need-shared-slice-read-lesser Inv-loop μ-loop
-shared-slice-read-lesser c = omega arith
-
-lesser-requires : tie.Need-lesser-requires Inv-loop μ-loop
-lesser-requires c κs = search needs
-
-mul-greater : tie.Need-mul-greater Inv-loop μ-loop
-mul-greater c = omega arith
-
-shared-slice-read-greater : tie.Need-shared-slice-read-greater Inv-loop μ-loop
-shared-slice-read-greater c = omega arith
-
-greater-requires : tie.Need-greater-requires Inv-loop μ-loop
-greater-requires c κs = search needs
-
-add-i : tie.Need-add-i Inv-loop μ-loop
-add-i c = omega arith
-
-loop-less : tie.Need-loop-less Inv-loop μ-loop
-loop-less c = omega arith
 
 loop-again : tie.Need-loop-again Inv-loop μ-loop
 loop-again c =
@@ -71,19 +41,5 @@ returns c =
 pub find-extremes-spec : {M : Type 1} → statement M
 find-extremes-spec =
     tie.close
-    (tie.spec
-    Inv-loop
-    μ-loop
-    shared-slice-read-low
-    shared-slice-read-high
-    loop-holds
-    mul-lesser
-    shared-slice-read-lesser
-    lesser-requires
-    mul-greater
-    shared-slice-read-greater
-    greater-requires
-    add-i
-    loop-less
-    loop-again
-    returns)
+    (tie.spec Inv-loop μ-loop (λ c. omega arith) (λ c. omega arith) loop-holds (λ c. omega arith) (λ c. omega arith) (search needs) (λ c. omega arith)
+    (λ c. omega arith) (search needs) (λ c. omega arith) (λ c. omega arith) loop-again returns)

@@ -27,43 +27,16 @@ returns-2 c =
     let a = c .before .before .before .args in
     none-of-too-few (a .limit) (a .size) (a .values .now) (c .if2 .taken)
 
-sub-last : tie.Need-sub-last Inv-loop μ-loop
-sub-last c = omega arith
-
 loop-holds : tie.Need-loop-holds Inv-loop μ-loop
 loop-holds c =
     let a = c .before .before .before .args in
     search-begins (a .limit) (a .size) (a .values .now)
-
-add-end : tie.Need-add-end Inv-loop μ-loop
-add-end c = omega arith
-
-mul-is-group : tie.Need-mul-is-group Inv-loop μ-loop
-mul-is-group c = omega arith
-
-sub-is-group : tie.Need-sub-is-group Inv-loop μ-loop
-sub-is-group c = omega arith
-
-part-is-group-start : tie.Need-part-is-group-start Inv-loop μ-loop
-part-is-group-start c = omega arith
-
-part-is-group-end : tie.Need-part-is-group-end Inv-loop μ-loop
-part-is-group-end c = omega arith
-
-is-group-requires : tie.Need-is-group-requires Inv-loop μ-loop
-is-group-requires c κs = search needs
 
 returns-3 : tie.Need-returns-3 Inv-loop μ-loop
 returns-3 c =
     let l = c .before .before .before .before .loop in
     let a = c .before .before .before .before .before .before .before .before .args in
     sym (place-hit (qualifiesAt (a .limit) (a .size) (a .values .now)) (length (a .values .now) + 1 - a .size) (l .at) (omega arith) (part-qualifies (a .limit) (a .size) (a .values .now) (l .at) (c .before .is-group .ensures) (c .if3 .taken)) (l .inv))
-
-add-at : tie.Need-add-at Inv-loop μ-loop
-add-at c = omega arith
-
-loop-less : tie.Need-loop-less Inv-loop μ-loop
-loop-less c = omega arith
 
 loop-again : tie.Need-loop-again Inv-loop μ-loop
 loop-again c =
@@ -80,21 +53,5 @@ returns-4 c =
 pub first-group-spec : {M : Type 1} → statement M
 first-group-spec =
     tie.close
-    (tie.spec
-    Inv-loop
-    μ-loop
-    returns
-    returns-2
-    sub-last
-    loop-holds
-    add-end
-    mul-is-group
-    sub-is-group
-    part-is-group-start
-    part-is-group-end
-    is-group-requires
-    returns-3
-    add-at
-    loop-less
-    loop-again
-    returns-4)
+    (tie.spec Inv-loop μ-loop returns returns-2 (λ c. omega arith) loop-holds (λ c. omega arith) (λ c. omega arith) (λ c. omega arith)
+    (λ c. omega arith) (λ c. omega arith) (search needs) returns-3 (λ c. omega arith) (λ c. omega arith) loop-again returns-4)

@@ -18,20 +18,8 @@ use Rattle.group.proofs.is_group.Tie as tie
 returns : tie.Need-returns
 returns c = sym (qualifies-none (c .before .before .args .limit) (c .before .before .args .values .now) (c .if1 .taken))
 
-find-extremes-requires : tie.Need-find-extremes-requires
-find-extremes-requires c κs = search needs
-
 sub-product : tie.Need-sub-product
 sub-product c = omega (arith, c .before .find-extremes .ensures, smallest-at-most-largest (c .before .before .before .before .args .values .now))
-
-product-requires : tie.Need-product-requires
-product-requires c κs = search needs
-
-product-requires-2 : tie.Need-product-requires-2
-product-requires-2 c κs = search needs
-
-is-at-most-requires : tie.Need-is-at-most-requires
-is-at-most-requires c κs = search needs
 
 -- two words stand for the number that they were made of
 value-wide : (n : ℕ) → valueOf (wideOf n) ≡ n
@@ -54,13 +42,4 @@ returns-2 c =
     ∙ compared (a .limit) (a .values .now) (e .result .smallest) (e .result .largest) (p .product .result) (c .before .product2 .result) (omega arith) (e .ensures .0) (e .ensures .1) (p .product .ensures) (c .before .product2 .ensures)
 
 pub is-group-spec : {M : Type 1} → statement M
-is-group-spec =
-    tie.close
-    (tie.spec
-    returns
-    find-extremes-requires
-    sub-product
-    product-requires
-    product-requires-2
-    is-at-most-requires
-    returns-2)
+is-group-spec = tie.close (tie.spec returns (search needs) sub-product (search needs) (search needs) (search needs) returns-2)

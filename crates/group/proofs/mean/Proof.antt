@@ -9,15 +9,6 @@ use borrow.Author.Needs.{needs}
 use Rattle.group.proofs.mean.Statement.{statement}
 use Rattle.group.proofs.mean.Tie as tie
 
-add-up-requires : tie.Need-add-up-requires
-add-up-requires c κs = search needs
-
-rounded-quotient-requires : tie.Need-rounded-quotient-requires
-rounded-quotient-requires c κs = search needs
-
-value-or-zero-requires : tie.Need-value-or-zero-requires
-value-or-zero-requires c κs = search needs
-
 returns : tie.Need-returns
 returns c =
     let q = c .before in
@@ -29,5 +20,4 @@ returns c =
     ∙ mean-value xs (λ k h. omega (arith, known .shared-slice-known .given k))
 
 pub mean-spec : {M : Type 1} → statement M
-mean-spec =
-    tie.close (tie.spec add-up-requires rounded-quotient-requires value-or-zero-requires returns)
+mean-spec = tie.close (tie.spec (search needs) (search needs) (search needs) returns)

@@ -6,19 +6,13 @@ use Rattle.hex.specs.Hex.{areBytes}
 use Rattle.hex.proofs.are_bytes.Statement.{statement}
 use Rattle.hex.proofs.are_bytes.Tie as tie
 
-is-dash-requires : tie.Need-is-dash-requires
-is-dash-requires c κs = search needs
-
 returns : tie.Need-returns
 unfolding areBytes
 returns c = sym (rw (sym (c .before .is-dash .ensures) ∙ c .if1 .taken))
-
-are-hex-requires : tie.Need-are-hex-requires
-are-hex-requires c κs = search needs
 
 returns-2 : tie.Need-returns-2
 unfolding areBytes
 returns-2 c = rw (c .are-hex .ensures, sym (c .before .before .is-dash .ensures) ∙ c .before .if1 .left)
 
 pub are-bytes-spec : {M : Type 1} → statement M
-are-bytes-spec = tie.close (tie.spec is-dash-requires returns are-hex-requires returns-2)
+are-bytes-spec = tie.close (tie.spec (search needs) returns (search needs) returns-2)

@@ -18,20 +18,8 @@ abbrev μ-loop : tie.MeasureT-loop
 loop-holds : tie.Need-loop-holds Inv-loop μ-loop
 loop-holds c = (refl, omega arith)
 
-shared-slice-read-value-hex : tie.Need-shared-slice-read-value-hex Inv-loop μ-loop
-shared-slice-read-value-hex c = search needs
-
-value-hex-requires : tie.Need-value-hex-requires Inv-loop μ-loop
-value-hex-requires c κs = search needs
-
 returns : tie.Need-returns Inv-loop μ-loop
 returns c = let l = c .before .before .before .before .loop in let w = c .before .before .before .before .before .before .args .word .now in let h : 15 < hexOf (getD w (l .i) 0) = omega (arith, c .before .value-hex .ensures .0) in sym (l .inv .0 ∙ all-stop w (l .i) (omega arith) h)
-
-add-i : tie.Need-add-i Inv-loop μ-loop
-add-i c = search needs
-
-loop-less : tie.Need-loop-less Inv-loop μ-loop
-loop-less c = search needs
 
 loop-again : tie.Need-loop-again Inv-loop μ-loop
 loop-again c = let l = c .before .before .before .before .loop in let w = c .before .before .before .before .before .before .args .word .now in let h : hexOf (getD w (l .i) 0) ≤ 15 = omega (arith, c .before .value-hex .ensures .0) in (l .inv .0 ∙ all-step w (l .i) (omega arith) h, omega arith)
@@ -42,14 +30,4 @@ returns-2 c = let l = c .before .loop in let w = c .before .before .before .args
 pub are-hex-spec : {M : Type 1} → statement M
 are-hex-spec =
     tie.close
-    (tie.spec
-    Inv-loop
-    μ-loop
-    loop-holds
-    shared-slice-read-value-hex
-    value-hex-requires
-    returns
-    add-i
-    loop-less
-    loop-again
-    returns-2)
+    (tie.spec Inv-loop μ-loop loop-holds (search needs) (search needs) returns (search needs) (search needs) loop-again returns-2)

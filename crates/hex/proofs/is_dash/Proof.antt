@@ -6,12 +6,9 @@ use Rattle.octets.specs.Octets.{byteAt}
 use Rattle.hex.proofs.is_dash.Statement.{statement}
 use Rattle.hex.proofs.is_dash.Tie as tie
 
-byte-at-requires : tie.Need-byte-at-requires
-byte-at-requires c κs = search needs
-
 returns : tie.Need-returns
 unfolding isDash byteAt
 returns c = rw (c .byte-at .ensures)
 
 pub is-dash-spec : {M : Type 1} → statement M
-is-dash-spec = tie.close (tie.spec byte-at-requires returns)
+is-dash-spec = tie.close (tie.spec (search needs) returns)

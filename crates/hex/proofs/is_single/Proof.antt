@@ -5,12 +5,9 @@ use Rattle.hex.specs.Hex.{isSingle}
 use Rattle.hex.proofs.is_single.Statement.{statement}
 use Rattle.hex.proofs.is_single.Tie as tie
 
-are-bytes-requires : tie.Need-are-bytes-requires
-are-bytes-requires c κs = search needs
-
 returns : tie.Need-returns
 unfolding isSingle
 returns c = rw (c .are-bytes .ensures)
 
 pub is-single-spec : {M : Type 1} → statement M
-is-single-spec = tie.close (tie.spec are-bytes-requires returns)
+is-single-spec = tie.close (tie.spec (search needs) returns)

@@ -15,15 +15,9 @@ returns-2 : tie.Need-returns-2
 unfolding pairOf
 returns-2 c = sym (rw (le-leb (c .before .before .args .high) 15 (c .before .if1 .left), lt-leb (c .before .before .args .low) 15 (c .if2 .taken)))
 
-mul-result : tie.Need-mul-result
-mul-result c = search needs
-
-add-result : tie.Need-add-result
-add-result c = search needs
-
 returns-3 : tie.Need-returns-3
 unfolding pairOf
 returns-3 c = sym (rw (le-leb (c .before .before .args .high) 15 (c .before .if1 .left), le-leb (c .before .before .args .low) 15 (c .if2 .left)))
 
 pub join-hex-spec : {M : Type 1} → statement M
-join-hex-spec = tie.close (tie.spec returns returns-2 mul-result add-result returns-3)
+join-hex-spec = tie.close (tie.spec returns returns-2 (search needs) (search needs) returns-3)

@@ -21,9 +21,6 @@ Inv-loop word into₀ count i₀ into i = (i ≤ count) × (into ≡ paste into�
 abbrev μ-loop : tie.MeasureT-loop
 μ-loop word into₀ count i₀ into i = count - i
 
-are-bytes-requires : tie.Need-are-bytes-requires Inv-loop μ-loop
-are-bytes-requires c κs = search needs
-
 returns : tie.Need-returns Inv-loop μ-loop
 returns c = let a = c .before .before .before .before .args in let e = bytes-none (a .word .now) (sym (c .before .are-bytes .ensures) ∙ not-true _ (c .if1 .taken)) in ((omega arith, refl), (sym (ap (placeAfter (a .into .now) 0) e ∙ place-none (a .into .now)), sym (ap (writtenAt (a .into .now) 0) e ∙ written-none (a .into .now))))
 
@@ -33,38 +30,8 @@ returns-2 c = let a = c .before .before .before .before .before .args in let e =
 loop-holds : tie.Need-loop-holds Inv-loop μ-loop
 loop-holds c = let a = c .before .before .before .before .before .args in (omega arith, paste-zero (a .into .now) 0 (pairs (a .word .now)))
 
-mul-value-hex : tie.Need-mul-value-hex Inv-loop μ-loop
-mul-value-hex c = search needs
-
-shared-slice-read-value-hex : tie.Need-shared-slice-read-value-hex Inv-loop μ-loop
-shared-slice-read-value-hex c = search needs
-
-value-hex-requires : tie.Need-value-hex-requires Inv-loop μ-loop
-value-hex-requires c κs = search needs
-
-mul-value-hex-2 : tie.Need-mul-value-hex-2 Inv-loop μ-loop
-mul-value-hex-2 c = search needs
-
-add-value-hex : tie.Need-add-value-hex Inv-loop μ-loop
-add-value-hex c = search needs
-
-shared-slice-read-value-hex-2 : tie.Need-shared-slice-read-value-hex-2 Inv-loop μ-loop
-shared-slice-read-value-hex-2 c = search needs
-
-value-hex-requires-2 : tie.Need-value-hex-requires-2 Inv-loop μ-loop
-value-hex-requires-2 c κs = search needs
-
-join-hex-requires : tie.Need-join-hex-requires Inv-loop μ-loop
-join-hex-requires c κs = search needs
-
 slice-write-into : tie.Need-slice-write-into Inv-loop μ-loop
 slice-write-into c = let l = c .before .before .before .before .before .before .loop in let a = c .before .before .before .before .before .before .before .before .before .before .before .before .args in let n = pairs-length (a .word .now) in omega (arith, as-long (a .into .now) (a .word .now) (l .into) (l .i) (omega arith) (omega arith) (l .inv .1))
-
-add-i : tie.Need-add-i Inv-loop μ-loop
-add-i c = search needs
-
-loop-less : tie.Need-loop-less Inv-loop μ-loop
-loop-less c = search needs
 
 loop-again : tie.Need-loop-again Inv-loop μ-loop
 loop-again c = let l = c .before .before .before .before .before .before .loop in let a = c .before .before .before .before .before .before .before .before .before .before .before .before .args in let w = a .word .now in let n = pairs-length w in (omega arith, one-pair (a .into .now) w (l .into) (l .i) (c .join-hex .result) (omega arith) (omega arith) (l .inv .1) (c .join-hex .ensures ∙ ap (λ (h : ℕ). pairOf h (c .before .value-hex2 .result)) (c .before .before .before .value-hex .ensures .0) ∙ ap (pairOf (hexOf (getD w (2 * l .i) 0))) (c .before .value-hex2 .ensures .0) ∙ sym (pairs-at w (l .i) (omega arith))))
@@ -78,24 +45,5 @@ returns-3 c = let l = c .before .loop in let a = c .before .before .before .befo
 pub read-bytes-spec : {M : Type 1} → statement M
 read-bytes-spec =
     tie.close
-    (tie.spec
-    Inv-loop
-    μ-loop
-    are-bytes-requires
-    returns
-    returns-2
-    loop-holds
-    mul-value-hex
-    shared-slice-read-value-hex
-    value-hex-requires
-    mul-value-hex-2
-    add-value-hex
-    shared-slice-read-value-hex-2
-    value-hex-requires-2
-    join-hex-requires
-    slice-write-into
-    add-i
-    loop-less
-    loop-again
-    same-length
-    returns-3)
+    (tie.spec Inv-loop μ-loop (search needs) returns returns-2 loop-holds (search needs) (search needs) (search needs) (search needs) (search needs)
+    (search needs) (search needs) (search needs) slice-write-into (search needs) (search needs) loop-again same-length returns-3)

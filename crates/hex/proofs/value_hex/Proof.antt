@@ -16,9 +16,6 @@ returns-2 c = (sym (hex-digit (c .before .before .args .byte) (c .before .if1 .l
 returns-3 : tie.Need-returns-3
 returns-3 c = (sym (hex-between (c .before .before .before .args .byte) (c .before .if2 .left) (c .if3 .taken)), omega arith)
 
-sub-result : tie.Need-sub-result
-sub-result c = search needs
-
 returns-4 : tie.Need-returns-4
 returns-4 c = (sym (hex-letter (c .before .before .before .before .args .byte) (c .before .if3 .left) (c .if4 .taken)), omega arith)
 
@@ -26,4 +23,4 @@ returns-5 : tie.Need-returns-5
 returns-5 c = (sym (hex-high (c .before .before .before .before .args .byte) (c .if4 .left)), omega arith)
 
 pub value-hex-spec : {M : Type 1} → statement M
-value-hex-spec = tie.close (tie.spec returns returns-2 returns-3 sub-result returns-4 returns-5)
+value-hex-spec = tie.close (tie.spec returns returns-2 returns-3 (search needs) returns-4 returns-5)

@@ -1,5 +1,5 @@
 -- `hex::write_bytes` meets its contract.
-use mathlib.Core.Path.{_≡_, sym, ap, _∙_}
+use mathlib.Core.Path.{sym, ap, _∙_}
 use borrow.Author.Needs.{needs}
 use Rattle.octets.specs.Octets.{writtenAt}
 use Rattle.words.specs.Written.{placeAfter}
@@ -7,26 +7,11 @@ use Rattle.hex.proofs.Spelling.{dash-word, text-word}
 use Rattle.hex.proofs.write_bytes.Statement.{statement}
 use Rattle.hex.proofs.write_bytes.Tie as tie
 
-slice-aggregate-write-text : tie.Need-slice-aggregate-write-text
-slice-aggregate-write-text c = search needs
-
-write-text-requires : tie.Need-write-text-requires
-write-text-requires c κs = search needs
-
-same-length : tie.Need-same-length
-same-length c = search needs
-
 returns : tie.Need-returns
 returns c = let a = c .before .before .before .before .before .before .before .before .args in let e = dash-word (a .bytes .now) (c .before .before .before .before .before .if1 .taken) in (c .before .before .write-text .ensures .0 ∙ ap (placeAfter (a .out .now) (a .at)) (sym e), c .before .before .write-text .ensures .1 ∙ ap (writtenAt (a .out .now) (a .at)) (sym e))
-
-write-hex-requires : tie.Need-write-hex-requires
-write-hex-requires c κs = search needs
-
-same-length-2 : tie.Need-same-length-2
-same-length-2 c = search needs
 
 returns-2 : tie.Need-returns-2
 returns-2 c = let a = c .before .before .before .before .before .before .before .args in let e = text-word (a .bytes .now) (c .before .before .before .before .if1 .left) in (c .before .before .write-hex .ensures .0 ∙ ap (placeAfter (a .out .now) (a .at)) (sym e), c .before .before .write-hex .ensures .1 ∙ ap (writtenAt (a .out .now) (a .at)) (sym e))
 
 pub write-bytes-spec : {M : Type 1} → statement M
-write-bytes-spec = tie.close (tie.spec slice-aggregate-write-text write-text-requires same-length returns write-hex-requires same-length-2 returns-2)
+write-bytes-spec = tie.close (tie.spec (search needs) (search needs) (search needs) returns (search needs) (search needs) returns-2)

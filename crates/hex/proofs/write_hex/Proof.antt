@@ -21,56 +21,20 @@ abbrev μ-loop : tie.MeasureT-loop
 returns : tie.Need-returns Inv-loop μ-loop
 returns c = let a = c .before .before .before .args in let t = hexText (a .bytes .now) in let n = text-length (a .bytes .now) in (sym (place-not (a .out .now) (a .at) t (omega arith)), sym (written-not (a .out .now) (a .at) t (omega arith)))
 
-sub-if2 : tie.Need-sub-if2 Inv-loop μ-loop
-sub-if2 c = search needs
-
 returns-2 : tie.Need-returns-2 Inv-loop μ-loop
 returns-2 c = let a = c .before .before .before .before .args in let t = hexText (a .bytes .now) in let n = text-length (a .bytes .now) in (sym (place-not (a .out .now) (a .at) t (omega arith)), sym (written-not (a .out .now) (a .at) t (omega arith)))
 
 loop-holds : tie.Need-loop-holds Inv-loop μ-loop
 loop-holds c = let a = c .before .before .before .before .args in let t = hexText (a .bytes .now) in let n = text-length (a .bytes .now) in (omega arith, paste-zero (a .out .now) (a .at) t)
 
-shared-slice-read-spell-high : tie.Need-shared-slice-read-spell-high Inv-loop μ-loop
-shared-slice-read-spell-high c = search needs
-
-spell-high-requires : tie.Need-spell-high-requires Inv-loop μ-loop
-spell-high-requires c κs = search needs
-
-shared-slice-read-spell-low : tie.Need-shared-slice-read-spell-low Inv-loop μ-loop
-shared-slice-read-spell-low c = search needs
-
-spell-low-requires : tie.Need-spell-low-requires Inv-loop μ-loop
-spell-low-requires c κs = search needs
-
-mul-to : tie.Need-mul-to Inv-loop μ-loop
-mul-to c = search needs
-
-add-to : tie.Need-add-to Inv-loop μ-loop
-add-to c = search needs
-
 slice-write-out : tie.Need-slice-write-out Inv-loop μ-loop
 slice-write-out c = let l = c .before .before .before .before .before .loop in let a = c .before .before .before .before .before .before .before .before .before .before .args in let t = hexText (a .bytes .now) in let n = text-length (a .bytes .now) in omega (arith, ap length (l .inv .1) ∙ length-paste (a .out .now) (a .at) t (2 * l .i) (omega arith) (omega arith))
-
-add-out : tie.Need-add-out Inv-loop μ-loop
-add-out c = search needs
 
 slice-write-out-2 : tie.Need-slice-write-out-2 Inv-loop μ-loop
 slice-write-out-2 c = let l = c .before .before .before .before .before .loop in let a = c .before .before .before .before .before .before .before .before .before .before .args in let t = hexText (a .bytes .now) in let n = text-length (a .bytes .now) in simp length-set (omega (arith, ap length (l .inv .1) ∙ length-paste (a .out .now) (a .at) t (2 * l .i) (omega arith) (omega arith)))
 
-add-i : tie.Need-add-i Inv-loop μ-loop
-add-i c = search needs
-
-loop-less : tie.Need-loop-less Inv-loop μ-loop
-loop-less c = search needs
-
 loop-again : tie.Need-loop-again Inv-loop μ-loop
 loop-again c = let l = c .before .before .before .before .before .loop in let a = c .before .before .before .before .before .before .before .before .before .before .args in let t = hexText (a .bytes .now) in let n = text-length (a .bytes .now) in (omega arith, two-more (a .out .now) t (l .out) (a .at) (l .i) _ _ (omega arith) (omega arith) (l .inv .1) (c .before .before .spell-high .ensures ∙ sym (text-high (a .bytes .now) (l .i) (omega arith))) (c .spell-low .ensures ∙ sym (text-low (a .bytes .now) (l .i) (omega arith))))
-
-mul-result : tie.Need-mul-result Inv-loop μ-loop
-mul-result c = search needs
-
-add-result : tie.Need-add-result Inv-loop μ-loop
-add-result c = search needs
 
 same-length : tie.Need-same-length Inv-loop μ-loop
 same-length c = let l = c .before .loop in let a = c .before .before .before .before .before .before .args in let t = hexText (a .bytes .now) in let n = text-length (a .bytes .now) in ap length (l .inv .1) ∙ length-paste (a .out .now) (a .at) t (2 * l .i) (omega arith) (omega arith)
@@ -81,26 +45,6 @@ returns-3 c = let l = c .before .loop in let a = c .before .before .before .befo
 pub write-hex-spec : {M : Type 1} → statement M
 write-hex-spec =
     tie.close
-    (tie.spec
-    Inv-loop
-    μ-loop
-    returns
-    sub-if2
-    returns-2
-    loop-holds
-    shared-slice-read-spell-high
-    spell-high-requires
-    shared-slice-read-spell-low
-    spell-low-requires
-    mul-to
-    add-to
-    slice-write-out
-    add-out
-    slice-write-out-2
-    add-i
-    loop-less
-    loop-again
-    mul-result
-    add-result
-    same-length
+    (tie.spec Inv-loop μ-loop returns (search needs) returns-2 loop-holds (search needs) (search needs) (search needs) (search needs) (search needs)
+    (search needs) slice-write-out (search needs) slice-write-out-2 (search needs) (search needs) loop-again (search needs) (search needs) same-length
     returns-3)

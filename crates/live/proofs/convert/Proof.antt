@@ -11,24 +11,6 @@ use Rattle.live.proofs.Answers.{temperatureSingle, pressureSingle, live
 use Rattle.live.proofs.convert.Statement.{statement}
 use Rattle.live.proofs.convert.Tie as tie
 
-judge-requires : tie.Need-judge-requires
-judge-requires c κs = search needs
-
-judge-requires-2 : tie.Need-judge-requires-2
-judge-requires-2 c κs = search needs
-
-enum-known-temperature : tie.Need-enum-known-temperature
-enum-known-temperature c = search needs
-
-enum-known-temperature-2 : tie.Need-enum-known-temperature-2
-enum-known-temperature-2 c = search needs
-
-enum-known-pressure : tie.Need-enum-known-pressure
-enum-known-pressure c = search needs
-
-enum-known-pressure-2 : tie.Need-enum-known-pressure-2
-enum-known-pressure-2 c = search needs
-
 -- the singles' answers at the arm where both have a whole number
 temperature-done : (c : tie.After-known-told4) → temperatureSingle (c .before .before .before .before .before .before .before .before .args .reading .temperature) ≡ done (c .before .before .before .before .temperature2 .given .0 .0)
 unfolding singleTold
@@ -76,14 +58,4 @@ returns-3 c =
 pub convert-spec : {M : Type 1} → statement M
 convert-spec =
     tie.close
-    (tie.spec
-    judge-requires
-    judge-requires-2
-    enum-known-temperature
-    enum-known-temperature-2
-    enum-known-pressure
-    enum-known-pressure-2
-    cast-t10
-    returns
-    returns-2
-    returns-3)
+    (tie.spec (search needs) (search needs) (search needs) (search needs) (search needs) (search needs) cast-t10 returns returns-2 returns-3)

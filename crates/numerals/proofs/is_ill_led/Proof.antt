@@ -6,12 +6,9 @@ use Rattle.octets.specs.Octets.{byteAt}
 use Rattle.numerals.proofs.is_ill_led.Statement.{statement}
 use Rattle.numerals.proofs.is_ill_led.Tie as tie
 
-byte-at-requires : tie.Need-byte-at-requires
-byte-at-requires c κs = search needs
-
 returns : tie.Need-returns
 unfolding isIllLed byteAt
 returns c = rw (c .byte-at .ensures)
 
 pub is-ill-led-spec : {M : Type 1} → statement M
-is-ill-led-spec = tie.close (tie.spec byte-at-requires returns)
+is-ill-led-spec = tie.close (tie.spec (search needs) returns)

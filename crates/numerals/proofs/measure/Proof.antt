@@ -14,9 +14,6 @@ is-below c = below (c .before .fits .n) (c .if1 .left)
 cast-result : tie.Need-cast-result
 cast-result c = above (c .before .fits .n) (c .if1 .taken)
 
-returns : tie.Need-returns
-returns c = search needs
-
 cast-result-2 : tie.Need-cast-result-2
 cast-result-2 c = turned-fits (is-below c)
 
@@ -27,4 +24,4 @@ returns-2 : tie.Need-returns-2
 returns-2 c = let b = is-below c in ap (λ (n : ℕ). n + 1) (ap natAbs (b .is)) ∙ sym (b .abs)
 
 pub measure-spec : {M : Type 1} → statement M
-measure-spec = tie.close (tie.spec cast-result returns cast-result-2 add-result returns-2)
+measure-spec = tie.close (tie.spec cast-result (λ c. search needs) cast-result-2 add-result returns-2)

@@ -8,18 +8,6 @@ use lib.Seq.{take-all}
 use Rattle.numerals.proofs.pass_first.Statement.{statement}
 use Rattle.numerals.proofs.pass_first.Tie as tie
 
-sub-result : tie.Need-sub-result
-sub-result c = search needs
-
-part-result-start : tie.Need-part-result-start
-part-result-start c = search needs
-
-part-result-end : tie.Need-part-result-end
-part-result-end c = search needs
-
-slice-aggregate-result : tie.Need-slice-aggregate-result
-slice-aggregate-result c = search needs
-
 returns : tie.Need-returns
 returns c = let w = c .before .before .args .word .now in take-all (length w - 1) (drop 1 w) (omega (arith, length-drop 1 w))
 
@@ -27,12 +15,4 @@ returns-2 : tie.Need-returns-2
 returns-2 c = let w = c .before .before .args .word .now in sym (drop-of-length-le w {i = 1} (omega arith))
 
 pub pass-first-spec : {M : Type 1} → statement M
-pass-first-spec =
-    tie.close
-    (tie.spec
-    sub-result
-    part-result-start
-    part-result-end
-    slice-aggregate-result
-    returns
-    returns-2)
+pass-first-spec = tie.close (tie.spec (search needs) (search needs) (search needs) (search needs) returns returns-2)

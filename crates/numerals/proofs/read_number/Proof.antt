@@ -15,9 +15,6 @@ Inv-loop word most value₀ i₀ value i = (i ≤ length word) × ((value ≤ mo
 abbrev μ-loop : tie.MeasureT-loop
 μ-loop word most value₀ i₀ value i = length word - i
 
-is-ill-led-requires : tie.Need-is-ill-led-requires Inv-loop μ-loop
-is-ill-led-requires c κs = search needs
-
 returns : tie.Need-returns Inv-loop μ-loop
 unfolding told
 returns c = let a = c .before .before .before .args in sym (ill (a .most) (a .word .now) (sym (c .before .is-ill-led .ensures) ∙ c .if1 .taken))
@@ -25,37 +22,16 @@ returns c = let a = c .before .before .before .args in sym (ill (a .most) (a .wo
 loop-holds : tie.Need-loop-holds Inv-loop μ-loop
 loop-holds c = let a = c .before .before .before .args in (omega arith, (omega arith, well-led (a .word .now) (sym (c .before .is-ill-led .ensures) ∙ c .if1 .left)))
 
-shared-slice-read-value-digit : tie.Need-shared-slice-read-value-digit Inv-loop μ-loop
-shared-slice-read-value-digit c = search needs
-
-value-digit-requires : tie.Need-value-digit-requires Inv-loop μ-loop
-value-digit-requires c κs = search needs
-
 returns-2 : tie.Need-returns-2 Inv-loop μ-loop
 unfolding told numberOf upTo
 returns-2 c = let l = c .before .before .before .before .loop in let a = c .before .before .before .before .before .before .before .before .args in let w = a .word .now in let d = c .before .value-digit .ensures .0 in let h : 9 < digitOf (getD w (l .i) 0) = omega arith in sym (ap (upTo (a .most)) (l .inv .1 .1 ∙ no-digit (l .value) w (l .i) (omega arith) h))
-
-mul-value : tie.Need-mul-value Inv-loop μ-loop
-mul-value c = search needs
-
-add-value : tie.Need-add-value Inv-loop μ-loop
-add-value c = search needs
 
 returns-3 : tie.Need-returns-3 Inv-loop μ-loop
 unfolding told numberOf
 returns-3 c = let l = c .before .before .before .before .before .loop in let a = c .before .before .before .before .before .before .before .before .before .args in let w = a .word .now in let d = c .before .before .value-digit .ensures .0 in let h : digitOf (getD w (l .i) 0) ≤ 9 = omega arith in sym (ap (upTo (a .most)) (l .inv .1 .1 ∙ one-digit (l .value) w (l .i) (omega arith) h) ∙ too-large (a .most) (10 * l .value + digitOf (getD w (l .i) 0)) (drop (l .i + 1) w) (omega arith))
 
-add-i : tie.Need-add-i Inv-loop μ-loop
-add-i c = search needs
-
-loop-less : tie.Need-loop-less Inv-loop μ-loop
-loop-less c = search needs
-
 loop-again : tie.Need-loop-again Inv-loop μ-loop
 loop-again c = let l = c .before .before .before .before .before .loop in let a = c .before .before .before .before .before .before .before .before .before .args in let w = a .word .now in let d = c .before .before .value-digit .ensures .0 in let h : digitOf (getD w (l .i) 0) ≤ 9 = omega arith in (omega arith, (omega arith, l .inv .1 .1 ∙ one-digit (l .value) w (l .i) (omega arith) h ∙ ap (λ (n : ℕ). goOn (10 * l .value + n) (drop (l .i + 1) w)) (sym d)))
-
-cast-t12 : tie.Need-cast-t12 Inv-loop μ-loop
-cast-t12 c = search needs
 
 returns-4 : tie.Need-returns-4 Inv-loop μ-loop
 unfolding told numberOf
@@ -64,20 +40,5 @@ returns-4 c = let l = c .before .loop in let a = c .before .before .before .befo
 pub read-number-spec : {M : Type 1} → statement M
 read-number-spec =
     tie.close
-    (tie.spec
-    Inv-loop
-    μ-loop
-    is-ill-led-requires
-    returns
-    loop-holds
-    shared-slice-read-value-digit
-    value-digit-requires
-    returns-2
-    mul-value
-    add-value
-    returns-3
-    add-i
-    loop-less
-    loop-again
-    cast-t12
-    returns-4)
+    (tie.spec Inv-loop μ-loop (search needs) returns loop-holds (search needs) (search needs) returns-2 (search needs) (search needs) returns-3
+    (search needs) (search needs) loop-again (search needs) returns-4)

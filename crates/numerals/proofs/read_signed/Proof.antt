@@ -25,18 +25,6 @@ below-is c = valued 32768 _ _ _ _ (c .before .before .before .read-number .ensur
 above-is : (c : tie.After-known-told2) → numberOf 32767 (c .before .before .before .before .before .before .before .args .word .now) ≡ some (c .before .number .given .0 .0)
 above-is c = valued 32767 _ _ _ _ (c .before .before .before .read-number2 .ensures) refl (c .before .number .given .1)
 
-byte-at-requires : tie.Need-byte-at-requires
-byte-at-requires c κs = search needs
-
-pass-first-requires : tie.Need-pass-first-requires
-pass-first-requires c κs = search needs
-
-read-number-requires : tie.Need-read-number-requires
-read-number-requires c κs = search needs
-
-enum-known-below : tie.Need-enum-known-below
-enum-known-below c = search needs
-
 negate-requires : tie.Need-negate-requires
 negate-requires c κs = number-fits 32768 _ _ (below-is c)
 
@@ -50,17 +38,8 @@ returns-2 : tie.Need-returns-2
 unfolding toldSigned negated
 returns-2 c = sym (taken-signed (c .before .before .before .before .before .before .before .args .word .now) (dashed (c .before .before .before .before)) ∙ ap negated (unvalued 32768 _ _ _ (c .before .before .read-number .ensures) (c .before .before .before .pass-first .ensures) (c .enum-told .given .1)))
 
-read-number-requires-2 : tie.Need-read-number-requires-2
-read-number-requires-2 c κs = search needs
-
-enum-known-number : tie.Need-enum-known-number
-enum-known-number c = search needs
-
 cast-t11 : tie.Need-cast-t11
 cast-t11 c = record { sfits = omega (arith, number-fits 32767 _ _ (above-is c)) }
-
-enum-told-2 : tie.Need-enum-told-2
-enum-told-2 c = search needs
 
 returns-3 : tie.Need-returns-3
 unfolding toldSigned
@@ -73,18 +52,5 @@ returns-4 c = sym (left-signed (c .before .before .before .before .before .befor
 pub read-signed-spec : {M : Type 1} → statement M
 read-signed-spec =
     tie.close
-    (tie.spec
-    byte-at-requires
-    pass-first-requires
-    read-number-requires
-    enum-known-below
-    negate-requires
-    enum-told
-    returns
-    returns-2
-    read-number-requires-2
-    enum-known-number
-    cast-t11
-    enum-told-2
-    returns-3
-    returns-4)
+    (tie.spec (search needs) (search needs) (search needs) (search needs) negate-requires enum-told returns returns-2 (search needs) (search needs)
+    cast-t11 (search needs) returns-3 returns-4)

@@ -7,9 +7,6 @@ use Rattle.numerals.proofs.Numbers.{digit-is, digit-low, digit-high}
 use Rattle.numerals.proofs.value_digit.Statement.{statement}
 use Rattle.numerals.proofs.value_digit.Tie as tie
 
-cast-result : tie.Need-cast-result
-cast-result c = search needs
-
 returns : tie.Need-returns
 returns c = (sym (digit-is (c .before .before .args .byte) (c .before .if1 .taken) (c .if2 .taken)), omega arith)
 
@@ -20,4 +17,4 @@ returns-3 : tie.Need-returns-3
 returns-3 c = (sym (digit-low (c .before .args .byte) (c .if1 .left)), omega arith)
 
 pub value-digit-spec : {M : Type 1} → statement M
-value-digit-spec = tie.close (tie.spec cast-result returns returns-2 returns-3)
+value-digit-spec = tie.close (tie.spec (search needs) returns returns-2 returns-3)

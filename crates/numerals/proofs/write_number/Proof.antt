@@ -10,21 +10,6 @@ use borrow.Author.Needs.{needs}
 use Rattle.numerals.proofs.write_number.Statement.{statement}
 use Rattle.numerals.proofs.write_number.Tie as tie
 
-decimal-requires : tie.Need-decimal-requires
-decimal-requires c κs = search needs
-
-array-share-prefix-digits : tie.Need-array-share-prefix-digits
-array-share-prefix-digits c = search needs
-
-slice-aggregate-write-text : tie.Need-slice-aggregate-write-text
-slice-aggregate-write-text c = search needs
-
-write-text-requires : tie.Need-write-text-requires
-write-text-requires c κs = search needs
-
-same-length : tie.Need-same-length
-same-length c = search needs
-
 text-is : (c : tie.After-slice-known2) → take (c .before .before .before .before .before .decimal .result) (c .before .before .before .before .before .decimal .last .1 .0) ≡ printed (c .before .before .before .before .before .before .before .before .args .n)
 text-is c =
     let d = c .before .before .before .before .before .decimal in
@@ -37,12 +22,4 @@ returns c =
     (c .before .before .write-text .ensures .0 ∙ ap (placeAfter (a .out .now) (a .at)) t, c .before .before .write-text .ensures .1 ∙ ap (writtenAt (a .out .now) (a .at)) t)
 
 pub write-number-spec : {M : Type 1} → statement M
-write-number-spec =
-    tie.close
-    (tie.spec
-    decimal-requires
-    array-share-prefix-digits
-    slice-aggregate-write-text
-    write-text-requires
-    same-length
-    returns)
+write-number-spec = tie.close (tie.spec (search needs) (search needs) (search needs) (search needs) (search needs) returns)

@@ -1,5 +1,5 @@
 -- `numerals::write_signed` meets its contract: by the side of zero.
-use mathlib.Core.Path.{_≡_, ap, _∙_}
+use mathlib.Core.Path.{ap, _∙_}
 use mathlib.Core.List.{List}
 use Prim.Native.Nat.{ℕ}
 use Rattle.octets.specs.Octets.{writtenAt}
@@ -10,32 +10,8 @@ use borrow.Author.Needs.{needs}
 use Rattle.numerals.proofs.write_signed.Statement.{statement}
 use Rattle.numerals.proofs.write_signed.Tie as tie
 
-measure-requires : tie.Need-measure-requires
-measure-requires c κs = search needs
-
-write-number-requires : tie.Need-write-number-requires
-write-number-requires c κs = search needs
-
-same-length : tie.Need-same-length
-same-length c = search needs
-
 returns : tie.Need-returns
 returns c = let a = c .before .before .before .before .before .before .before .args in let s = machine-above (a .out .now) (a .at) (c .before .before .before .before .measure .result) (c .before .before .before .before .before .before .before .fits .n) (c .before .before .before .before .before .if1 .taken) (c .before .before .before .before .measure .ensures) in (c .before .before .write-number .ensures .0 ∙ s .place-is, c .before .before .write-number .ensures .1 ∙ s .left-is)
-
-slice-aggregate-write-text : tie.Need-slice-aggregate-write-text
-slice-aggregate-write-text c = search needs
-
-write-text-requires : tie.Need-write-text-requires
-write-text-requires c κs = search needs
-
-measure-requires-2 : tie.Need-measure-requires-2
-measure-requires-2 c κs = search needs
-
-write-number-requires-2 : tie.Need-write-number-requires-2
-write-number-requires-2 c κs = search needs
-
-same-length-2 : tie.Need-same-length-2
-same-length-2 c = search needs
 
 returns-2 : tie.Need-returns-2
 returns-2 c = let a = c .before .before .before .before .before .before .before .before .before .before .before .before .args in let m = c .before .before .before .before .measure2 .result in let t = c .before .before .before .before .before .before .before .write-text in let s = machine-below (a .out .now) (a .at) m (c .before .before .before .before .before .before .before .before .before .before .before .before .fits .n) (c .before .before .before .before .before .before .before .before .before .before .if1 .left) (c .before .before .before .before .measure2 .ensures) in (c .before .before .write-number2 .ensures .0 ∙ ap (λ (l : List ℕ). placeAfter l (t .result) (printed m)) (t .ensures .1) ∙ ap (λ (p : ℕ). placeAfter (writtenAt (a .out .now) (a .at) dash) p (printed m)) (t .ensures .0) ∙ s .place-is, c .before .before .write-number2 .ensures .1 ∙ ap (λ (l : List ℕ). writtenAt l (t .result) (printed m)) (t .ensures .1) ∙ ap (λ (p : ℕ). writtenAt (writtenAt (a .out .now) (a .at) dash) p (printed m)) (t .ensures .0) ∙ s .left-is)
@@ -43,14 +19,5 @@ returns-2 c = let a = c .before .before .before .before .before .before .before 
 pub write-signed-spec : {M : Type 1} → statement M
 write-signed-spec =
     tie.close
-    (tie.spec
-    measure-requires
-    write-number-requires
-    same-length
-    returns
-    slice-aggregate-write-text
-    write-text-requires
-    measure-requires-2
-    write-number-requires-2
-    same-length-2
+    (tie.spec (search needs) (search needs) (search needs) returns (search needs) (search needs) (search needs) (search needs) (search needs)
     returns-2)

@@ -40,20 +40,11 @@ returns c =
     let a = c .before .before .before .args in
     sym (done tests (isZeroAt (a .s .now)) (a .b) (l .i) (c .if1 .taken) (l .inv))
 
-shared-slice-read-if2 : tie.Need-shared-slice-read-if2 Inv-loop μ-loop
-shared-slice-read-if2 c = omega arith
-
 returns-2 : tie.Need-returns-2 Inv-loop μ-loop
 returns-2 c =
     let l = c .before .before .before .before .loop in
     let a = c .before .before .before .before .before .args in
     sym (all-hit (isZeroAt (a .s .now)) (a .b) (l .i) (c .before .before .if1 .left) (not-zero-here (a .s .now) (l .i) (c .if2 .taken)) (l .inv))
-
-add-i : tie.Need-add-i Inv-loop μ-loop
-add-i c = omega arith
-
-loop-less : tie.Need-loop-less Inv-loop μ-loop
-loop-less c = omega arith
 
 loop-again : tie.Need-loop-again Inv-loop μ-loop
 loop-again c =
@@ -70,14 +61,4 @@ returns-3 c =
 pub are-zero-spec : {M : Type 1} → statement M
 are-zero-spec =
     tie.close
-    (tie.spec
-    Inv-loop
-    μ-loop
-    loop-holds
-    returns
-    shared-slice-read-if2
-    returns-2
-    add-i
-    loop-less
-    loop-again
-    returns-3)
+    (tie.spec Inv-loop μ-loop loop-holds returns (λ c. omega arith) returns-2 (λ c. omega arith) (λ c. omega arith) loop-again returns-3)

@@ -6,9 +6,6 @@ use Rattle.octets.specs.Octets.{byteAt}
 use Rattle.octets.proofs.byte_at.Statement.{statement}
 use Rattle.octets.proofs.byte_at.Tie as tie
 
-shared-slice-read-result : tie.Need-shared-slice-read-result
-shared-slice-read-result c = search needs
-
 returns : tie.Need-returns
 unfolding byteAt
 returns c = refl
@@ -18,4 +15,4 @@ unfolding byteAt
 returns-2 c = sym (List·getD-eq-default (c .before .args .s .now) 0 (c .if1 .left))
 
 pub byte-at-spec : {M : Type 1} → statement M
-byte-at-spec = tie.close (tie.spec shared-slice-read-result returns returns-2)
+byte-at-spec = tie.close (tie.spec (search needs) returns returns-2)

@@ -10,27 +10,6 @@ returns : tie.Need-returns
 unfolding longAt
 returns c = sym (number-past 4 (c .before .before .args .s .now) (c .before .before .args .at) (c .if1 .taken))
 
-word-at-requires : tie.Need-word-at-requires
-word-at-requires c κs = search needs
-
-cast-low : tie.Need-cast-low
-cast-low c = search needs
-
-add-word-at : tie.Need-add-word-at
-add-word-at c = search needs
-
-word-at-requires-2 : tie.Need-word-at-requires-2
-word-at-requires-2 c κs = search needs
-
-cast-high : tie.Need-cast-high
-cast-high c = search needs
-
-mul-result : tie.Need-mul-result
-mul-result c = search needs
-
-add-result : tie.Need-add-result
-add-result c = search needs
-
 returns-2 : tie.Need-returns-2
 returns-2 c =
     let a = c .before .before .before .before .args in
@@ -41,13 +20,4 @@ returns-2 c =
 pub long-at-spec : {M : Type 1} → statement M
 long-at-spec =
     tie.close
-    (tie.spec
-    returns
-    word-at-requires
-    cast-low
-    add-word-at
-    word-at-requires-2
-    cast-high
-    mul-result
-    add-result
-    returns-2)
+    (tie.spec returns (search needs) (search needs) (search needs) (search needs) (search needs) (search needs) (search needs) returns-2)

@@ -20,18 +20,6 @@ machine-high x h l =
     let less : 65536 - suc x ≡ 65535 - x = omega arith in
     rw (back, le-ltb x 32768 h, less) (sym (signed-high x h l))
 
-word-at-requires : tie.Need-word-at-requires
-word-at-requires c κs = search needs
-
-cast-result : tie.Need-cast-result
-cast-result c = search needs
-
-sub-result : tie.Need-sub-result
-sub-result c = search needs
-
-cast-result-2 : tie.Need-cast-result-2
-cast-result-2 c = search needs
-
 returns : tie.Need-returns
 unfolding signedAt
 returns c = machine-low (c .before .word-at .result) (c .if1 .taken) ∙ ap signedOf (c .before .word-at .ensures)
@@ -43,5 +31,4 @@ returns-2 c =
     machine-high (x .result) (c .if1 .left) (omega arith) ∙ ap signedOf (x .ensures)
 
 pub signed-at-spec : {M : Type 1} → statement M
-signed-at-spec =
-    tie.close (tie.spec word-at-requires cast-result sub-result cast-result-2 returns returns-2)
+signed-at-spec = tie.close (tie.spec (search needs) (search needs) (search needs) (search needs) returns returns-2)

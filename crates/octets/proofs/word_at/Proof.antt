@@ -10,27 +10,6 @@ returns : tie.Need-returns
 unfolding wordAt
 returns c = sym (number-past 2 (c .before .before .args .s .now) (c .before .before .args .at) (c .if1 .taken))
 
-byte-at-requires : tie.Need-byte-at-requires
-byte-at-requires c κs = search needs
-
-cast-low : tie.Need-cast-low
-cast-low c = search needs
-
-add-byte-at : tie.Need-add-byte-at
-add-byte-at c = search needs
-
-byte-at-requires-2 : tie.Need-byte-at-requires-2
-byte-at-requires-2 c κs = search needs
-
-cast-high : tie.Need-cast-high
-cast-high c = search needs
-
-mul-result : tie.Need-mul-result
-mul-result c = search needs
-
-add-result : tie.Need-add-result
-add-result c = search needs
-
 returns-2 : tie.Need-returns-2
 returns-2 c =
     let a = c .before .before .before .before .args in
@@ -41,13 +20,4 @@ returns-2 c =
 pub word-at-spec : {M : Type 1} → statement M
 word-at-spec =
     tie.close
-    (tie.spec
-    returns
-    byte-at-requires
-    cast-low
-    add-byte-at
-    byte-at-requires-2
-    cast-high
-    mul-result
-    add-result
-    returns-2)
+    (tie.spec returns (search needs) (search needs) (search needs) (search needs) (search needs) (search needs) (search needs) returns-2)

@@ -5,15 +5,9 @@ use borrow.Author.Needs.{needs}
 use Rattle.octets.proofs.word_bytes.Statement.{statement}
 use Rattle.octets.proofs.word_bytes.Tie as tie
 
-cast-t5 : tie.Need-cast-t5
-cast-t5 c = search needs
-
-cast-t6 : tie.Need-cast-t6
-cast-t6 c = search needs
-
 returns : tie.Need-returns
 unfolding bytesOf
 returns c = refl
 
 pub word-bytes-spec : {M : Type 1} → statement M
-word-bytes-spec = tie.close (tie.spec cast-t5 cast-t6 returns)
+word-bytes-spec = tie.close (tie.spec (search needs) (search needs) returns)

@@ -33,9 +33,6 @@ returns c =
     let a = c .before .args in
     sym (written-not (a .to .now) (a .at) (a .bytes .now) (omega arith))
 
-sub-if2 : tie.Need-sub-if2 Inv-loop μ-loop
-sub-if2 c = omega arith
-
 returns-2 : tie.Need-returns-2 Inv-loop μ-loop
 returns-2 c =
     let a = c .before .before .args in
@@ -46,23 +43,11 @@ loop-holds c =
     let a = c .before .before .args in
     (omega arith, paste-zero (a .to .now) (a .at) (a .bytes .now))
 
-shared-slice-read-to : tie.Need-shared-slice-read-to Inv-loop μ-loop
-shared-slice-read-to c = omega arith
-
-add-to : tie.Need-add-to Inv-loop μ-loop
-add-to c = omega arith
-
 slice-write-to : tie.Need-slice-write-to Inv-loop μ-loop
 slice-write-to c =
     let a = c .before .before .before .before .before .args in
     let l = c .before .before .loop in
     omega (arith, long-as-it-was (a .to .now) (a .bytes .now) (l .to) (a .at) (l .i) (omega arith) (l .inv .0) (l .inv .1))
-
-add-i : tie.Need-add-i Inv-loop μ-loop
-add-i c = omega arith
-
-loop-less : tie.Need-loop-less Inv-loop μ-loop
-loop-less c = omega arith
 
 loop-again : tie.Need-loop-again Inv-loop μ-loop
 loop-again c =
@@ -85,18 +70,5 @@ returns-3 c =
 pub write-at-spec : {M : Type 1} → statement M
 write-at-spec =
     tie.close
-    (tie.spec
-    Inv-loop
-    μ-loop
-    returns
-    sub-if2
-    returns-2
-    loop-holds
-    shared-slice-read-to
-    add-to
-    slice-write-to
-    add-i
-    loop-less
-    loop-again
-    same-length
-    returns-3)
+    (tie.spec Inv-loop μ-loop returns (λ c. omega arith) returns-2 loop-holds (λ c. omega arith) (λ c. omega arith) slice-write-to (λ c. omega arith)
+    (λ c. omega arith) loop-again same-length returns-3)

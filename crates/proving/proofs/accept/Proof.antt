@@ -1,7 +1,6 @@
 -- `proving::accept` meets its contract: the five records lie within the lent ones.
-use mathlib.Core.List.{List}
-use mathlib.Core.Path.{_≡_, refl, ap, sym, _∙_}
-use Prim.Native.Nat.{ℕ, _+_, _*_, _-_, _/_, _≤_}
+use mathlib.Core.Path.{_≡_, ap, sym, _∙_}
+use Prim.Native.Nat.{ℕ, _+_, _*_, _-_, _≤_}
 use native.Mathlib.Omega.{arith}
 use borrow.Author.Needs.{needs}
 use denote.Ref.{now}
@@ -13,12 +12,6 @@ use Rattle.proving.specs.Job.{foundOf, acceptedBy, acceptedOf}
 use Rattle.proving.specs.Judging.{runsIn}
 use Rattle.proving.proofs.accept.Statement.{statement}
 use Rattle.proving.proofs.accept.Tie as tie
-
-find-five-requires : tie.Need-find-five-requires
-find-five-requires c κs = search needs
-
-enum-known-found : tie.Need-enum-known-found
-enum-known-found c = search needs
 
 abbrev begin : tie.After-known-told → tie.Start
 begin c = c .before .before .before .before .before
@@ -39,20 +32,11 @@ mul-from c = omega (arith, room c)
 add-end : tie.Need-add-end
 add-end c = omega (arith, room c)
 
-sub-result : tie.Need-sub-result
-sub-result c = search needs
-
-part-result-start : tie.Need-part-result-start
-part-result-start c = search needs
-
 part-result-end : tie.Need-part-result-end
 part-result-end c = omega (arith, room c)
 
 enum-told : tie.Need-enum-told
 enum-told c = search needs
-
-slice-aggregate-result : tie.Need-slice-aggregate-result
-slice-aggregate-result c = search needs
 
 returns : tie.Need-returns
 unfolding acceptedOf
@@ -70,15 +54,4 @@ returns-2 c =
 pub accept-spec : {M : Type 1} → statement M
 accept-spec =
     tie.close
-    (tie.spec
-    find-five-requires
-    enum-known-found
-    mul-from
-    add-end
-    sub-result
-    part-result-start
-    part-result-end
-    enum-told
-    slice-aggregate-result
-    returns
-    returns-2)
+    (tie.spec (search needs) (search needs) mul-from add-end (search needs) (search needs) part-result-end enum-told (search needs) returns returns-2)

@@ -1,23 +1,20 @@
 -- `proving::find_five` meets its contract: the array begins with the runs' factors.
 use mathlib.Core.List.{List}
-use mathlib.Core.Path.{_≡_, refl, ap, sym, _∙_}
-use Prim.Native.Nat.{ℕ, _/_, _≤_}
+use mathlib.Core.Path.{_≡_, ap, sym, _∙_}
+use Prim.Native.Nat.{ℕ, _/_}
 use native.Mathlib.Omega.{arith}
 use borrow.Author.Needs.{needs}
 use denote.Ref.{now}
 use lib.ListN.{length, take, length-take}
 use Rattle.refusals.proofs.Laws.{orElse-next, orElse-first, orElse-fine-first, judged-fault, refused-not-done}
-use Rattle.refusals.specs.Told.{Told, done, refused, Fault, fine, orElse, judged}
+use Rattle.refusals.specs.Told.{Fault, fine, judged}
 use Rattle.group.specs.Repeatability.{firstGroup}
 use Rattle.proving.proofs.Facts.{Settings, settings, factors-listed}
-use Rattle.proving.specs.Answers.{toldFault, toldFound}
+use Rattle.proving.specs.Answers.{toldFault}
 use Rattle.proving.specs.Job.{firstFive, factorsOf, groupFault, placeFound, foundOf}
 use Rattle.proving.specs.Judging.{runsIn, settingsFault, inputFault}
 use Rattle.proving.proofs.find_five.Statement.{statement}
 use Rattle.proving.proofs.find_five.Tie as tie
-
-judge-input-requires : tie.Need-judge-input-requires
-judge-input-requires c κs = search needs
 
 enum-told : tie.Need-enum-told
 enum-told c = search needs
@@ -42,12 +39,6 @@ array-share-prefix-factors c = omega (arith, settled c .most, c .before .before 
 slice-aggregate-seek : tie.Need-slice-aggregate-seek
 slice-aggregate-seek c = let d = c .before in simp length-take (omega (arith, settled d .most, d .before .before .before .judge-input .ensures .1))
 
-seek-requires : tie.Need-seek-requires
-seek-requires c κs = search needs
-
-enum-known-verdict : tie.Need-enum-known-verdict
-enum-known-verdict c = search needs
-
 returns : tie.Need-returns
 unfolding foundOf firstFive
 returns c =
@@ -71,12 +62,4 @@ returns-2 c =
 pub find-five-spec : {M : Type 1} → statement M
 find-five-spec =
     tie.close
-    (tie.spec
-    judge-input-requires
-    enum-told
-    array-share-prefix-factors
-    slice-aggregate-seek
-    seek-requires
-    enum-known-verdict
-    returns
-    returns-2)
+    (tie.spec (search needs) enum-told array-share-prefix-factors slice-aggregate-seek (search needs) (search needs) returns returns-2)

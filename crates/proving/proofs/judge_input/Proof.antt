@@ -1,12 +1,12 @@
 -- `proving::judge_input` meets its contract: what the settings leave, the records decide, and then the runs.
 use mathlib.Core.Path.{_≡_, refl, ap, sym, _∙_}
-use Prim.Native.Nat.{ℕ, _*_, _/_, _≤_}
+use Prim.Native.Nat.{_/_}
 use native.Mathlib.Omega.{arith}
 use borrow.Author.Needs.{needs}
 use denote.Ref.{now}
 use lib.ListN.{length}
 use Rattle.refusals.proofs.Laws.{orElse-next, orElse-first, fault-not-fine}
-use Rattle.refusals.specs.Told.{Fault, fine}
+use Rattle.refusals.specs.Told.{fine}
 use Rattle.octets.specs.FirstToLast.{scan}
 use Rattle.proving.proofs.Facts.{Settings, settings, fields-fit}
 use Rattle.proving.specs.Answers.{toldFault}
@@ -14,14 +14,8 @@ use Rattle.proving.specs.Judging.{runsIn, settingsFault, recordFault, in
 use Rattle.proving.proofs.judge_input.Statement.{statement}
 use Rattle.proving.proofs.judge_input.Tie as tie
 
-judge-settings-requires : tie.Need-judge-settings-requires
-judge-settings-requires c κs = search needs
-
 enum-told : tie.Need-enum-told
 enum-told c = search needs
-
-enum-told-2 : tie.Need-enum-told-2
-enum-told-2 c = search needs
 
 returns : tie.Need-returns
 unfolding inputFault
@@ -44,12 +38,6 @@ records-fine c = sym (c .before .before .judge-records .ensures) ∙ ap toldFaul
 judge-records-requires : tie.Need-judge-records-requires
 judge-records-requires c κs = let h = settled c in (h .most, omega (arith, h .whole))
 
-enum-told-3 : tie.Need-enum-told-3
-enum-told-3 c = search needs
-
-enum-told-4 : tie.Need-enum-told-4
-enum-told-4 c = search needs
-
 returns-2 : tie.Need-returns-2
 unfolding inputFault runsIn
 returns-2 c =
@@ -69,14 +57,5 @@ returns-3 c =
 pub judge-input-spec : {M : Type 1} → statement M
 judge-input-spec =
     tie.close
-    (tie.spec
-    judge-settings-requires
-    enum-told
-    enum-told-2
-    returns
-    judge-records-requires
-    enum-told-3
-    enum-told-4
-    returns-2
-    work-out-runs-requires
+    (tie.spec (search needs) enum-told (search needs) returns judge-records-requires (search needs) (search needs) returns-2 work-out-runs-requires
     returns-3)

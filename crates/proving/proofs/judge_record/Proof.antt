@@ -1,5 +1,4 @@
 -- `proving::judge_record` meets its contract: 5, then 2.
-use mathlib.Core.Bool.{true}
 use mathlib.Core.Path.{_≡_, ap, sym, _∙_}
 use borrow.Author.Needs.{needs}
 use Prim.Native.Nat.{_*_}
@@ -9,30 +8,6 @@ use Rattle.run.specs.Record.{runAt, fieldsOk, unnamedOk}
 use Rattle.proving.specs.Judging.{recordFault}
 use Rattle.proving.proofs.judge_record.Statement.{statement}
 use Rattle.proving.proofs.judge_record.Tie as tie
-
-mul-at : tie.Need-mul-at
-mul-at c = search needs
-
-add-number : tie.Need-add-number
-add-number c = search needs
-
-cast-number : tie.Need-cast-number
-cast-number c = search needs
-
-decode-requires : tie.Need-decode-requires
-decode-requires c κs = search needs
-
-is-run-requires : tie.Need-is-run-requires
-is-run-requires c κs = search needs
-
-add-are-zero : tie.Need-add-are-zero
-add-are-zero c = search needs
-
-add-are-zero-2 : tie.Need-add-are-zero-2
-add-are-zero-2 c = search needs
-
-are-zero-requires : tie.Need-are-zero-requires
-are-zero-requires c κs = search needs
 
 judges : (c : tie.After-is-run) → c .is-run .result ≡ fieldsOk (runAt (now (c .before .before .before .args .records)) (32 * c .before .before .before .args .i))
 judges c = c .is-run .ensures ∙ ap fieldsOk (c .before .decode .ensures)
@@ -52,15 +27,5 @@ returns-3 c = sym (orElse-first _ (demandAt-fails 5 _ (sym (judges (c .before)) 
 pub judge-record-spec : {M : Type 1} → statement M
 judge-record-spec =
     tie.close
-    (tie.spec
-    mul-at
-    add-number
-    cast-number
-    decode-requires
-    is-run-requires
-    add-are-zero
-    add-are-zero-2
-    are-zero-requires
-    returns
-    returns-2
-    returns-3)
+    (tie.spec (search needs) (search needs) (search needs) (search needs) (search needs) (search needs) (search needs) (search needs) returns
+    returns-2 returns-3)

@@ -1,6 +1,6 @@
 -- `proving::judge_records` meets its contract. The loop's invariant: what is found from the first record on is what is found from record i on.
 use mathlib.Core.Path.{_≡_, sym, _∙_, ap}
-use Prim.Native.Nat.{ℕ, _+_, _-_, _≤_}
+use Prim.Native.Nat.{_-_, _≤_}
 use native.Mathlib.Omega.{arith}
 use borrow.Author.Needs.{needs}
 use denote.Ref.{now}
@@ -20,14 +20,8 @@ abbrev μ-loop : tie.MeasureT-loop
 loop-holds : tie.Need-loop-holds Inv-loop μ-loop
 loop-holds c = (omega arith, start faults (recordFault _) _)
 
-judge-record-requires : tie.Need-judge-record-requires Inv-loop μ-loop
-judge-record-requires c κs = omega arith
-
 enum-told : tie.Need-enum-told Inv-loop μ-loop
 enum-told c = search needs
-
-enum-told-2 : tie.Need-enum-told-2 Inv-loop μ-loop
-enum-told-2 c = search needs
 
 returns : tie.Need-returns Inv-loop μ-loop
 returns c =
@@ -35,12 +29,6 @@ returns c =
     let a = c .before .before .before .before .before .before .args in
     let is = ap toldFault (c .enum-told2 .given .1) in
     is ∙ sym (scan-hit (recordFault (now (a .records))) (a .count) (l .i) (omega arith) (sym (c .before .before .judge-record .ensures) ∙ is) (l .inv .1))
-
-add-i : tie.Need-add-i Inv-loop μ-loop
-add-i c = omega arith
-
-loop-less : tie.Need-loop-less Inv-loop μ-loop
-loop-less c = omega arith
 
 loop-again : tie.Need-loop-again Inv-loop μ-loop
 loop-again c =
@@ -56,15 +44,5 @@ returns-2 c =
 pub judge-records-spec : {M : Type 1} → statement M
 judge-records-spec =
     tie.close
-    (tie.spec
-    Inv-loop
-    μ-loop
-    loop-holds
-    judge-record-requires
-    enum-told
-    enum-told-2
-    returns
-    add-i
-    loop-less
-    loop-again
+    (tie.spec Inv-loop μ-loop loop-holds (λ c κs. omega arith) enum-told (search needs) returns (λ c. omega arith) (λ c. omega arith) loop-again
     returns-2)

@@ -1,7 +1,7 @@
 -- `proving::judge_settings` meets its contract: 1, 3, 4.
 use mathlib.Core.Bool.{true, _&&_}
 use mathlib.Core.Path.{_≡_, ap, sym, _∙_}
-use Prim.Native.Nat.{_/_, _%_}
+use Prim.Native.Nat.{_%_}
 use borrow.Author.Needs.{needs}
 use lib.Dec.{eqb}
 use Rattle.refusals.proofs.Laws.{demand-holds, demand-fails, orElse-next, orElse-first}
@@ -10,18 +10,6 @@ use Rattle.run.specs.Answers.{proverOk}
 use Rattle.proving.specs.Judging.{sizeOk, settingsFault}
 use Rattle.proving.proofs.judge_settings.Statement.{statement}
 use Rattle.proving.proofs.judge_settings.Tie as tie
-
-is-within-requires : tie.Need-is-within-requires
-is-within-requires c κs = search needs
-
-is-prover-requires : tie.Need-is-prover-requires
-is-prover-requires c κs = search needs
-
-is-within-requires-2 : tie.Need-is-within-requires-2
-is-within-requires-2 c κs = search needs
-
-is-within-requires-3 : tie.Need-is-within-requires-3
-is-within-requires-3 c κs = search needs
 
 judges-size : (c : tie.After-is-within) → (eqb (c .before .args .size % 32) 0 && c .is-within .result) ≡ sizeOk (c .before .args .size)
 unfolding sizeOk runsOk
@@ -54,14 +42,4 @@ unfolding settingsFault
 returns-4 c = sym (orElse-first _ (demand-fails 1 (sym (judges-size (c .before)) ∙ c .if1 .left)))
 
 pub judge-settings-spec : {M : Type 1} → statement M
-judge-settings-spec =
-    tie.close
-    (tie.spec
-    is-within-requires
-    is-prover-requires
-    is-within-requires-2
-    is-within-requires-3
-    returns
-    returns-2
-    returns-3
-    returns-4)
+judge-settings-spec = tie.close (tie.spec (search needs) (search needs) (search needs) (search needs) returns returns-2 returns-3 returns-4)

@@ -1,8 +1,8 @@
 -- `proving::prove` meets its contract: 14 and 22 first, and the report of what was found.
-use mathlib.Core.Bool.{true, not}
-use mathlib.Core.Option.{Option, some}
-use mathlib.Core.Path.{_≡_, refl, ap, sym, _∙_}
-use Prim.Native.Nat.{ℕ, _+_, _*_, _/_, _<_, _≤_}
+use mathlib.Core.Bool.{not}
+use mathlib.Core.Option.{Option}
+use mathlib.Core.Path.{_≡_, ap, sym, _∙_}
+use Prim.Native.Nat.{ℕ, _+_, _/_, _<_}
 use native.Mathlib.Omega.{arith}
 use borrow.Author.Needs.{needs}
 use borrow.Author.Tests.{eq-eqb, ne-eqb}
@@ -10,13 +10,12 @@ use denote.Ref.{now}
 use lib.Dec.{eqb}
 use lib.ListN.{length, getD}
 use Rattle.refusals.proofs.Laws.{demand-holds, demand-fails, orElse-next, orElse-first, judged-fine, judged-fault, judged-refused}
-use Rattle.refusals.specs.Told.{Told, done, refused, Fault, fine, fault, demand, orElse, judged}
-use Rattle.report.specs.Judged.{told, leftBy, writeOf}
-use Rattle.report.specs.declared.Factors.{Factors}
+use Rattle.refusals.specs.Told.{Told, done, Fault, demand, orElse, judged}
+use Rattle.report.specs.Judged.{leftBy, writeOf}
 use Rattle.report.specs.declared.Report.{Report}
 use Rattle.proving.proofs.Facts.{FoundAt, found-at, five-listed, written, factor-small}
 use Rattle.proving.specs.Answers.{toldFound}
-use Rattle.proving.specs.Job.{factorAt, factorsOf, firstFive, groupFault, placeFound, foundOf, fiveAt, reportAt, jobOf}
+use Rattle.proving.specs.Job.{factorAt, firstFive, groupFault, placeFound, foundOf, reportAt, jobOf}
 use Rattle.proving.specs.Judging.{runsIn, inputFault}
 use Rattle.proving.proofs.prove.Statement.{statement}
 use Rattle.proving.proofs.prove.Tie as tie
@@ -34,12 +33,6 @@ returns-2 c =
     let a = c .before .before .before .before .args in
     let job = judged-fault {n = 22} {at = 0} _ (orElse-next _ (demand-holds 14 (eq-eqb _ _ (c .before .if1 .left))) ∙ orElse-first _ (demand-fails 22 (ap not (eq-eqb _ _ (c .if2 .taken))))) in
     (sym job, sym (ap (λ (t : Told Report). leftBy t (now (a .buffer))) job))
-
-find-five-requires : tie.Need-find-five-requires
-find-five-requires c κs = search needs
-
-enum-known-found : tie.Need-enum-known-found
-enum-known-found c = search needs
 
 abbrev begin : tie.After-find-five → tie.Start
 begin c = c .before .before .before .before .before
@@ -76,15 +69,6 @@ unfolding runsIn
 take-five-requires c κs =
     let f = facts (c .before) in
     (omega (arith, f .inside, f .settled .most), λ i h. let room : place (c .before) + i < runsIn (now (begin (c .before .before .before .before) .args .records)) = omega (arith, f .inside) in omega (arith, each (c .before) (place (c .before) + i) room, factor-small (f .fit (place (c .before) + i) room)))
-
-write-requires : tie.Need-write-requires
-write-requires c κs = search needs
-
-enum-known-found-2 : tie.Need-enum-known-found-2
-enum-known-found-2 c = search needs
-
-same-length : tie.Need-same-length
-same-length c = search needs
 
 job-done : (c : tie.After-known-told) → jobOf (begin (c .before .before .before) .args .request) (begin (c .before .before .before) .args .prover) (begin (c .before .before .before) .args .k) (begin (c .before .before .before) .args .limit) (now (begin (c .before .before .before) .args .records)) (length (now (begin (c .before .before .before) .args .buffer))) ≡ done (reportAt (begin (c .before .before .before) .args .request) (begin (c .before .before .before) .args .prover) (begin (c .before .before .before) .args .k) (now (begin (c .before .before .before) .args .records)) (place c))
 unfolding jobOf
@@ -125,17 +109,5 @@ returns-4 c =
 pub prove-spec : {M : Type 1} → statement M
 prove-spec =
     tie.close
-    (tie.spec
-    returns
-    returns-2
-    find-five-requires
-    enum-known-found
-    cast-runs
-    add-write
-    cast-write
-    take-five-requires
-    write-requires
-    enum-known-found-2
-    same-length
-    returns-3
-    returns-4)
+    (tie.spec returns returns-2 (search needs) (search needs) cast-runs add-write cast-write take-five-requires (search needs) (search needs)
+    (search needs) returns-3 returns-4)

@@ -1,6 +1,6 @@
 -- `proving::seek` meets its contract.
 use mathlib.Core.Option.{Option}
-use mathlib.Core.Path.{_≡_, ap, sym, _∙_}
+use mathlib.Core.Path.{ap, sym, _∙_}
 use Prim.Native.Nat.{ℕ}
 use borrow.Author.Needs.{needs}
 use Rattle.refusals.specs.Told.{judged}
@@ -8,12 +8,6 @@ use Rattle.group.specs.Repeatability.{placeOf}
 use Rattle.proving.specs.Job.{groupFault, placeFound}
 use Rattle.proving.proofs.seek.Statement.{statement}
 use Rattle.proving.proofs.seek.Tie as tie
-
-first-group-requires : tie.Need-first-group-requires
-first-group-requires c κs = search needs
-
-enum-known-group : tie.Need-enum-known-group
-enum-known-group c = search needs
 
 enum-told : tie.Need-enum-told
 enum-told c = search needs
@@ -25,4 +19,4 @@ returns-2 : tie.Need-returns-2
 returns-2 c = sym (ap (λ (o : Option ℕ). judged (groupFault o) (placeFound o)) (sym (c .before .before .first-group .ensures) ∙ ap placeOf (c .enum-told .given .1)))
 
 pub seek-spec : {M : Type 1} → statement M
-seek-spec = tie.close (tie.spec first-group-requires enum-known-group enum-told returns returns-2)
+seek-spec = tie.close (tie.spec (search needs) (search needs) enum-told returns returns-2)

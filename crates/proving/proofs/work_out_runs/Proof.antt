@@ -1,13 +1,11 @@
 -- `proving::work_out_runs` meets its contract. The loop's invariant: no run before i is at fault, and the array holds the factors of those runs.
 use mathlib.Core.Path.{_≡_, refl, ap, sym, _∙_}
-use mathlib.Core.Bool.{true}
 use Prim.Native.Nat.{ℕ, _+_, _*_, _-_, _<_, _≤_}
 use native.Mathlib.Omega.{arith}
 use borrow.Author.Needs.{needs}
 use denote.Ref.{now}
-use lib.ListN.{length, getD, set, length-set}
-use Rattle.refusals.specs.Table.{numberOf, recordOf}
-use Rattle.refusals.specs.Told.{Fault, fine, fault, judged}
+use lib.ListN.{length, getD, length-set}
+use Rattle.refusals.specs.Told.{fine, fault, judged}
 use Rattle.octets.specs.FirstToLast.{scan}
 use Rattle.octets.proofs.FirstToLast.{faults, start, next, scan-hit, done}
 use Rattle.run.specs.Record.{runAt}
@@ -16,8 +14,8 @@ use Rattle.run.specs.Answers.{workedOf, toldFactor, factorOnly}
 use Rattle.run.specs.declared.Run.{Run}
 use Rattle.proving.specs.Judging.{runFault}
 use Rattle.proving.specs.Job.{factorAt}
-use Rattle.proving.specs.Answers.{toldFault, faultOf}
-use Rattle.proving.proofs.Laws.{filled, run-judged, factor-of, HasFactor, factor-told, refusal-told}
+use Rattle.proving.specs.Answers.{faultOf}
+use Rattle.proving.proofs.Laws.{filled, run-judged, factor-of, factor-told, refusal-told}
 use Rattle.proving.proofs.work_out_runs.Statement.{statement}
 use Rattle.proving.proofs.work_out_runs.Tie as tie
 
@@ -30,29 +28,8 @@ abbrev μ-loop : tie.MeasureT-loop
 loop-holds : tie.Need-loop-holds Inv-loop μ-loop
 loop-holds c = (omega arith, refl, start faults (runFault _ _ _) _, λ j h. absurd (omega arith))
 
-mul-decode : tie.Need-mul-decode Inv-loop μ-loop
-mul-decode c = omega arith
-
-decode-requires : tie.Need-decode-requires Inv-loop μ-loop
-decode-requires c κs = search needs
-
-add-find-factor : tie.Need-add-find-factor Inv-loop μ-loop
-add-find-factor c = omega arith
-
-cast-find-factor : tie.Need-cast-find-factor Inv-loop μ-loop
-cast-find-factor c = omega arith
-
-find-factor-requires : tie.Need-find-factor-requires Inv-loop μ-loop
-find-factor-requires c κs = search needs
-
-enum-known-outcome : tie.Need-enum-known-outcome Inv-loop μ-loop
-enum-known-outcome c = search needs
-
 enum-told : tie.Need-enum-told Inv-loop μ-loop
 enum-told c = search needs
-
-refuse-requires : tie.Need-refuse-requires Inv-loop μ-loop
-refuse-requires c κs = search needs
 
 abbrev At : Type 0
 At = tie.After-find-factor Inv-loop μ-loop
@@ -85,18 +62,6 @@ returns c =
     let here = refusal-told (runFault (a .prover) (a .k) (now (a .records)) (l .i)) (figuresOf (a .prover) (a .k) (runAt (now (a .records)) (32 * l .i))) (sym (ap toldFactor (c .before .enum-told .given .1)) ∙ answered d) in
     (told ∙ sym (scan-hit (runFault (a .prover) (a .k) (now (a .records))) (a .count) (l .i) (d .before .before .loop-test .taken) here (l .inv .2)), l .inv .1, λ none. absurd (fault-not-fine (sym told ∙ none)))
 
-mul-values : tie.Need-mul-values Inv-loop μ-loop
-mul-values c = omega arith
-
-array-write-values : tie.Need-array-write-values Inv-loop μ-loop
-array-write-values c = omega arith
-
-add-i : tie.Need-add-i Inv-loop μ-loop
-add-i c = omega arith
-
-loop-less : tie.Need-loop-less Inv-loop μ-loop
-loop-less c = omega arith
-
 loop-again : tie.Need-loop-again Inv-loop μ-loop
 loop-again c =
     let d = c .before .before .before in
@@ -114,22 +79,5 @@ returns-2 c =
 pub work-out-runs-spec : {M : Type 1} → statement M
 work-out-runs-spec =
     tie.close
-    (tie.spec
-    Inv-loop
-    μ-loop
-    loop-holds
-    mul-decode
-    decode-requires
-    add-find-factor
-    cast-find-factor
-    find-factor-requires
-    enum-known-outcome
-    enum-told
-    refuse-requires
-    returns
-    mul-values
-    array-write-values
-    add-i
-    loop-less
-    loop-again
-    returns-2)
+    (tie.spec Inv-loop μ-loop loop-holds (λ c. omega arith) (search needs) (λ c. omega arith) (λ c. omega arith) (search needs) (search needs)
+    enum-told (search needs) returns (λ c. omega arith) (λ c. omega arith) (λ c. omega arith) (λ c. omega arith) loop-again returns-2)

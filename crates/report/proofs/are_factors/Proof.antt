@@ -6,21 +6,6 @@ use borrow.Author.Needs.{needs}
 use Rattle.report.proofs.are_factors.Statement.{statement}
 use Rattle.report.proofs.are_factors.Tie as tie
 
-is-factor-requires : tie.Need-is-factor-requires
-is-factor-requires c κs = search needs
-
-is-factor-requires-2 : tie.Need-is-factor-requires-2
-is-factor-requires-2 c κs = search needs
-
-is-factor-requires-3 : tie.Need-is-factor-requires-3
-is-factor-requires-3 c κs = search needs
-
-is-factor-requires-4 : tie.Need-is-factor-requires-4
-is-factor-requires-4 c κs = search needs
-
-is-factor-requires-5 : tie.Need-is-factor-requires-5
-is-factor-requires-5 c κs = search needs
-
 returns : tie.Need-returns
 unfolding factorsOk listOf
 returns c =
@@ -30,12 +15,4 @@ returns c =
     rw (c2 .before .is-factor .ensures, c2 .is-factor2 .ensures, c3 .is-factor3 .ensures, c4 .is-factor4 .ensures, c .is-factor5 .ensures, and-true)
 
 pub are-factors-spec : {M : Type 1} → statement M
-are-factors-spec =
-    tie.close
-    (tie.spec
-    is-factor-requires
-    is-factor-requires-2
-    is-factor-requires-3
-    is-factor-requires-4
-    is-factor-requires-5
-    returns)
+are-factors-spec = tie.close (tie.spec (search needs) (search needs) (search needs) (search needs) (search needs) returns)

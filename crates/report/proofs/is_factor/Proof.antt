@@ -4,12 +4,9 @@ use borrow.Author.Needs.{needs}
 use Rattle.report.proofs.is_factor.Statement.{statement}
 use Rattle.report.proofs.is_factor.Tie as tie
 
-is-within-requires : tie.Need-is-within-requires
-is-within-requires c κs = search needs
-
 returns : tie.Need-returns
 unfolding runFactorOk
 returns c = c .is-within .ensures
 
 pub is-factor-spec : {M : Type 1} → statement M
-is-factor-spec = tie.close (tie.spec is-within-requires returns)
+is-factor-spec = tie.close (tie.spec (search needs) returns)

@@ -5,18 +5,9 @@ use borrow.Author.Needs.{needs}
 use Rattle.report.proofs.is_job.Statement.{statement}
 use Rattle.report.proofs.is_job.Tie as tie
 
-add-last : tie.Need-add-last
-add-last c = search needs
-
-is-within-requires : tie.Need-is-within-requires
-is-within-requires c κs = search needs
-
-are-factors-requires : tie.Need-are-factors-requires
-are-factors-requires c κs = search needs
-
 returns : tie.Need-returns
 unfolding runsOk firstOk jobOk
 returns c = rw (c .before .is-within .ensures, c .are-factors .ensures)
 
 pub is-job-spec : {M : Type 1} → statement M
-is-job-spec = tie.close (tie.spec add-last is-within-requires are-factors-requires returns)
+is-job-spec = tie.close (tie.spec (search needs) (search needs) (search needs) returns)

@@ -4,15 +4,9 @@ use borrow.Author.Needs.{needs}
 use Rattle.report.proofs.is_report.Statement.{statement}
 use Rattle.report.proofs.is_report.Tie as tie
 
-is-job-requires : tie.Need-is-job-requires
-is-job-requires c κs = search needs
-
-mean-requires : tie.Need-mean-requires
-mean-requires c κs = search needs
-
 returns : tie.Need-returns
 unfolding reportOk
 returns c = rw (c .before .before .is-job .ensures, c .before .mean .ensures)
 
 pub is-report-spec : {M : Type 1} → statement M
-is-report-spec = tie.close (tie.spec is-job-requires mean-requires returns)
+is-report-spec = tie.close (tie.spec (search needs) (search needs) returns)

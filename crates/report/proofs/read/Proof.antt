@@ -21,15 +21,6 @@ judged-by s r-is ok-is zeros-is t-is = sym (λ i. (ok-is ∙ ap reportOk r-is) i
 returns : tie.Need-returns
 returns c = read-size (c .before .before .args .bytes .now) (c .if1 .taken)
 
-decode-requires : tie.Need-decode-requires
-decode-requires c κs = search needs
-
-is-report-requires : tie.Need-is-report-requires
-is-report-requires c κs = search needs
-
-are-zero-requires : tie.Need-are-zero-requires
-are-zero-requires c κs = search needs
-
 returns-2 : tie.Need-returns-2
 returns-2 c =
     let d = c .before .before .before in
@@ -44,6 +35,4 @@ returns-3 c =
     read-not s (d .before .if1 .left) (judged-by s (d .decode .ensures) (c .before .before .is-report .ensures) (c .before .are-zero .ensures) (c .if2 .left))
 
 pub read-spec : {M : Type 1} → statement M
-read-spec =
-    tie.close
-    (tie.spec returns decode-requires is-report-requires are-zero-requires returns-2 returns-3)
+read-spec = tie.close (tie.spec returns (search needs) (search needs) (search needs) returns-2 returns-3)

@@ -38,24 +38,6 @@ returns-2 c =
     let a = c .before .before .before .args in
     as-found (a .buffer .now) (write-zero (length (a .buffer .now)) (a .number) (a .runs) (a .first) (a .factors) (c .before .if1 .left) (c .if2 .taken))
 
-is-job-requires : tie.Need-is-job-requires
-is-job-requires c κs = search needs
-
-mean-requires : tie.Need-mean-requires
-mean-requires c κs = search needs
-
-lay-out-requires : tie.Need-lay-out-requires
-lay-out-requires c κs = search needs
-
-slice-aggregate-write-at : tie.Need-slice-aggregate-write-at
-slice-aggregate-write-at c = search needs
-
-write-at-requires : tie.Need-write-at-requires
-write-at-requires c κs = search needs
-
-same-length : tie.Need-same-length
-same-length c = search needs
-
 returns-3 : tie.Need-returns-3
 unfolding reportOf
 returns-3 c =
@@ -82,14 +64,4 @@ returns-4 c =
 pub write-spec : {M : Type 1} → statement M
 write-spec =
     tie.close
-    (tie.spec
-    returns
-    returns-2
-    is-job-requires
-    mean-requires
-    lay-out-requires
-    slice-aggregate-write-at
-    write-at-requires
-    same-length
-    returns-3
-    returns-4)
+    (tie.spec returns returns-2 (search needs) (search needs) (search needs) (search needs) (search needs) (search needs) returns-3 returns-4)

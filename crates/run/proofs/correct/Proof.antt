@@ -1,6 +1,6 @@
 -- `run::correct` meets its contract: a volume of 10^8 by a factor of at most 16 stays within a word.
 use mathlib.Core.Path.{_≡_, ap, _∙_}
-use Prim.Native.Nat.{ℕ, _*_, _<_, _≤_}
+use Prim.Native.Nat.{ℕ, _*_, _≤_}
 use native.Mathlib.Nat.{mul-le-mul}
 use native.Mathlib.Omega.{arith}
 use borrow.Author.Needs.{needs}
@@ -13,12 +13,6 @@ use Rattle.factors.specs.Fractions.{combined}
 use Rattle.run.specs.Figures.{correctedBy}
 use Rattle.run.proofs.correct.Statement.{statement}
 use Rattle.run.proofs.correct.Tie as tie
-
-combine-requires : tie.Need-combine-requires
-combine-requires c κs = search needs
-
-combined-or-zero-requires : tie.Need-combined-or-zero-requires
-combined-or-zero-requires c κs = search needs
 
 factor-is : (c : tie.After-combined-or-zero) → c .combined-or-zero .result ≡ rounded 4 (combined 4 (now (c .before .before .before .args .list)))
 factor-is c =
@@ -46,6 +40,4 @@ returns c =
     ((λ i. record { cpl = a .cpl; factor = factor-is (c .before) i; volume = volume i }), small c)
 
 pub correct-spec : {M : Type 1} → statement M
-correct-spec =
-    tie.close
-    (tie.spec combine-requires combined-or-zero-requires mul-round round-requires returns)
+correct-spec = tie.close (tie.spec (search needs) (search needs) mul-round round-requires returns)

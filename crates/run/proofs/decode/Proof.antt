@@ -1,22 +1,13 @@
 -- `run::decode` meets its contract: a place past the end reads as the end does.
-use mathlib.Core.Path.{_≡_, _∙_}
+use mathlib.Core.Path.{_∙_}
 use borrow.Author.Needs.{needs}
 use denote.Ref.{now}
 use Rattle.run.proofs.Laws.{run-past}
 use Rattle.run.proofs.decode.Statement.{statement}
 use Rattle.run.proofs.decode.Tie as tie
 
-read-fields-requires : tie.Need-read-fields-requires
-read-fields-requires c κs = search needs
-
-returns : tie.Need-returns
-returns c = search needs
-
-read-fields-requires-2 : tie.Need-read-fields-requires-2
-read-fields-requires-2 c κs = search needs
-
 returns-2 : tie.Need-returns-2
 returns-2 c = c .read-fields2 .ensures ∙ run-past (now (c .before .before .before .args .s)) (c .before .if1 .left)
 
 pub decode-spec : {M : Type 1} → statement M
-decode-spec = tie.close (tie.spec read-fields-requires returns read-fields-requires-2 returns-2)
+decode-spec = tie.close (tie.spec (λ c κs. search needs) (λ c. search needs) (λ c κs. search needs) returns-2)

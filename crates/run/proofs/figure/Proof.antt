@@ -1,35 +1,20 @@
 -- `run::figure` meets its contract: every factor is its formula's value, and no product passes a word.
-use mathlib.Core.Bool.{true}
-use mathlib.Core.List.{List, [], _∷_}
-use mathlib.Core.Path.{_≡_, ap, sym, _∙_}
-use Prim.Native.Nat.{ℕ, _*_, _<_, _≤_}
+use mathlib.Core.List.{[], _∷_}
+use mathlib.Core.Path.{_≡_, ap, _∙_}
+use Prim.Native.Nat.{_≤_}
 use native.Mathlib.Omega.{arith}
 use borrow.Author.Needs.{needs}
-use lib.IntN.{ℤ}
 use mir.Syntax.{w16}
 use mir.Val.{toZ, ofZ}
 use mir.ValLaws.{toZ-ofZ}
 use Rattle.exact.specs.Rounding.{rounded, _over_}
 use Rattle.factors.proofs.Values.{cts-value, cts-small, cps-value, cps-small}
 use Rattle.factors.specs.Answers.{ctsOf}
-use Rattle.factors.specs.Fractions.{combined}
 use Rattle.factors.specs.declared.Places.the-variants.{Four}
 use Rattle.run.proofs.Laws.{SideFits, side-fits, ctl-most, RunFits, run-fits, ProverFits, prover-fits, four-small, two-small}
-use Rattle.run.specs.Figures.{steelCts, steelCps, liquidCpl, correctedBy, atProver, atMeter, figuresFrom}
+use Rattle.run.specs.Figures.{steelCts, steelCps, correctedBy, atProver, atMeter, figuresFrom}
 use Rattle.run.proofs.figure.Statement.{statement}
 use Rattle.run.proofs.figure.Tie as tie
-
-cts-requires : tie.Need-cts-requires
-cts-requires c κs = search needs
-
-value-or-zero-requires : tie.Need-value-or-zero-requires
-value-or-zero-requires c κs = search needs
-
-cps-requires : tie.Need-cps-requires
-cps-requires c κs = search needs
-
-value-or-zero-requires-2 : tie.Need-value-or-zero-requires-2
-value-or-zero-requires-2 c κs = search needs
 
 abbrev start : tie.After-value-or-zero2 → tie.Start
 start c = c .before .before .before .before .before .before .before .before
@@ -69,15 +54,6 @@ cps-most c = omega (arith, cps-is c, cps-small Four (start c .args .prover .pipe
 find-cpl-requires : tie.Need-find-cpl-requires
 find-cpl-requires c κs = run-fits (start c .args .run) (start c .pre .1) .prover
 
-cast-t18 : tie.Need-cast-t18
-cast-t18 c = search needs
-
-cast-correct : tie.Need-cast-correct
-cast-correct c = search needs
-
-slice-aggregate-correct : tie.Need-slice-aggregate-correct
-slice-aggregate-correct c = search needs
-
 correct-requires : tie.Need-correct-requires
 correct-requires c κs =
     let v = c .before .before .before .before in
@@ -89,25 +65,10 @@ side c = c .before .before .before .before .before
 find-cpl-requires-2 : tie.Need-find-cpl-requires-2
 find-cpl-requires-2 c κs = runs (side c) .meter
 
-cast-t18-2 : tie.Need-cast-t18-2
-cast-t18-2 c = search needs
-
-slice-aggregate-correct-2 : tie.Need-slice-aggregate-correct-2
-slice-aggregate-correct-2 c = search needs
-
 correct-requires-2 : tie.Need-correct-requires-2
 correct-requires-2 c κs =
     let v = side (c .before .before .before) in
     (start v .pre .2, omega arith, two-small _ _ (ctl-most (side-fits _ (runs v .meter) .ctl)) (c .before .before .find-cpl2 .ensures .1))
-
-cast-t19 : tie.Need-cast-t19
-cast-t19 c = search needs
-
-cast-t24 : tie.Need-cast-t24
-cast-t24 c = search needs
-
-round-requires : tie.Need-round-requires
-round-requires c κs = search needs
 
 prover-is : (c : tie.After-correct) → c .correct .result ≡ atProver (start (side c) .args .prover) (start (side c) .args .run)
 unfolding atProver
@@ -141,21 +102,5 @@ returns c =
 pub figure-spec : {M : Type 1} → statement M
 figure-spec =
     tie.close
-    (tie.spec
-    cts-requires
-    value-or-zero-requires
-    cps-requires
-    value-or-zero-requires-2
-    find-cpl-requires
-    cast-t18
-    cast-correct
-    slice-aggregate-correct
-    correct-requires
-    find-cpl-requires-2
-    cast-t18-2
-    slice-aggregate-correct-2
-    correct-requires-2
-    cast-t19
-    cast-t24
-    round-requires
-    returns)
+    (tie.spec (search needs) (search needs) (search needs) (search needs) find-cpl-requires (search needs) (search needs) (search needs)
+    correct-requires find-cpl-requires-2 (search needs) (search needs) correct-requires-2 (search needs) (search needs) (search needs) returns)

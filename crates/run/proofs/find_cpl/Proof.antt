@@ -1,21 +1,13 @@
 -- `run::find_cpl` meets its contract: the side is in range, so its CPL has a value, at most 2.
-use mathlib.Core.Path.{_≡_, ap, _∙_}
-use Prim.Native.Nat.{ℕ, _≤_}
+use mathlib.Core.Path.{_∙_}
 use native.Mathlib.Omega.{arith}
 use borrow.Author.Needs.{needs}
 use Rattle.factors.proofs.Values.{cpl-value, cpl-small}
-use Rattle.factors.specs.Answers.{valueOrZero}
 use Rattle.factors.specs.declared.Places.the-variants.{Four}
-use Rattle.run.proofs.Laws.{SideFits, side-fits}
+use Rattle.run.proofs.Laws.{side-fits}
 use Rattle.run.specs.Figures.{liquidCpl}
 use Rattle.run.proofs.find_cpl.Statement.{statement}
 use Rattle.run.proofs.find_cpl.Tie as tie
-
-cpl-requires : tie.Need-cpl-requires
-cpl-requires c κs = search needs
-
-value-or-zero-requires : tie.Need-value-or-zero-requires
-value-or-zero-requires c κs = search needs
 
 returns : tie.Need-returns
 unfolding liquidCpl
@@ -26,4 +18,4 @@ returns c =
     (is, omega (arith, is, cpl-small Four (side .compressibility) (side .pressure) (fits .pressure) (fits .compressibility)))
 
 pub find-cpl-spec : {M : Type 1} → statement M
-find-cpl-spec = tie.close (tie.spec cpl-requires value-or-zero-requires returns)
+find-cpl-spec = tie.close (tie.spec (search needs) (search needs) returns)

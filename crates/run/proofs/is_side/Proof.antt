@@ -1,6 +1,6 @@
 -- `run::is_side` meets its contract.
-use mathlib.Core.Bool.{Bool, _&&_}
-use mathlib.Core.Path.{_≡_, ap, _∙_}
+use mathlib.Core.Bool.{_&&_}
+use mathlib.Core.Path.{ap, _∙_}
 use borrow.Author.Needs.{needs}
 use lib.IntN.{pos, negsuc}
 use mir.Syntax.{w16}
@@ -11,27 +11,6 @@ use Rattle.run.specs.Record.{sideOk}
 use Rattle.run.proofs.is_side.Statement.{statement}
 use Rattle.run.proofs.is_side.Tie as tie
 
-is-within-signed-requires : tie.Need-is-within-signed-requires
-is-within-signed-requires c κs = search needs
-
-cast-is-within : tie.Need-cast-is-within
-cast-is-within c = search needs
-
-is-within-requires : tie.Need-is-within-requires
-is-within-requires c κs = search needs
-
-cast-is-within-2 : tie.Need-cast-is-within-2
-cast-is-within-2 c = search needs
-
-is-within-requires-2 : tie.Need-is-within-requires-2
-is-within-requires-2 c κs = search needs
-
-cast-is-within-3 : tie.Need-cast-is-within-3
-cast-is-within-3 c = search needs
-
-is-within-requires-3 : tie.Need-is-within-requires-3
-is-within-requires-3 c κs = search needs
-
 returns : tie.Need-returns
 unfolding sideOk temperatureOk pressureOk ctlOk compressibilityOk
 returns c =
@@ -40,14 +19,4 @@ returns c =
     λ i. warm i && (c .before .before .before .before .is-within .ensures i && (c .before .before .is-within2 .ensures i && c .is-within3 .ensures i))
 
 pub is-side-spec : {M : Type 1} → statement M
-is-side-spec =
-    tie.close
-    (tie.spec
-    is-within-signed-requires
-    cast-is-within
-    is-within-requires
-    cast-is-within-2
-    is-within-requires-2
-    cast-is-within-3
-    is-within-requires-3
-    returns)
+is-side-spec = tie.close (tie.spec (search needs) (search needs) (search needs) (search needs) (search needs) (search needs) (search needs) returns)

@@ -1,10 +1,9 @@
 -- `run::judge_figures` meets its contract: the indicated volume is judged before anything is made of it.
 use mathlib.Core.Bool.{true}
 use mathlib.Core.Path.{_≡_, ap, sym, _∙_}
-use Prim.Native.Nat.{ℕ, _*_, _≤_}
 use native.Mathlib.Omega.{arith}
 use borrow.Author.Needs.{needs}
-use Rattle.refusals.proofs.Laws.{judged-fine, judged-fault, demand-holds, demand-fails, demandAt-holds, demandAt-fails, orElse-next, orElse-first}
+use Rattle.refusals.proofs.Laws.{judged-fine, judged-fault, demandAt-holds, demandAt-fails, orElse-next, orElse-first}
 use Rattle.refusals.specs.Told.{done}
 use Rattle.ranges.proofs.Laws.{within-high}
 use Rattle.ranges.specs.Table.{volumeOk, runFactorOk}
@@ -15,23 +14,11 @@ use Rattle.run.specs.declared.Figures.{Figures}
 use Rattle.run.proofs.judge_figures.Statement.{statement}
 use Rattle.run.proofs.judge_figures.Tie as tie
 
-cast-round : tie.Need-cast-round
-cast-round c = search needs
-
-mul-round : tie.Need-mul-round
-mul-round c = search needs
-
 round-requires : tie.Need-round-requires
 round-requires c κs = omega (arith, run-fits (c .before .args .run) (c .before .pre .2))
 
-is-within-requires : tie.Need-is-within-requires
-is-within-requires c κs = search needs
-
 figure-requires : tie.Need-figure-requires
 figure-requires c κs = let a = c .before .before .before .before in (a .pre .0, a .pre .2, within-high 1 100000000 _ (sym (c .before .is-within .ensures) ∙ c .if1 .taken))
-
-is-within-requires-2 : tie.Need-is-within-requires-2
-is-within-requires-2 c κs = search needs
 
 abbrev start : tie.After-is-within → tie.Start
 start c = c .before .before .before
@@ -72,13 +59,4 @@ returns-3 c = sym (judged-fault _ (orElse-first _ (demandAt-fails 7 _ (sym (judg
 pub judge-figures-spec : {M : Type 1} → statement M
 judge-figures-spec =
     tie.close
-    (tie.spec
-    cast-round
-    mul-round
-    round-requires
-    is-within-requires
-    figure-requires
-    is-within-requires-2
-    returns
-    returns-2
-    returns-3)
+    (tie.spec (search needs) (search needs) round-requires (search needs) figure-requires (search needs) returns returns-2 returns-3)

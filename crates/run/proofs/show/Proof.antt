@@ -1,14 +1,13 @@
 -- `run::show` meets its contract: 2 stands between 5 and 7.
 use mathlib.Core.Bool.{Bool, true, false, not, _&&_, true≢false, false≢true}
 use mathlib.Core.Path.{_≡_, refl, ap, sym, _∙_}
-use Prim.Native.Nat.{ℕ}
 use borrow.Author.Needs.{needs}
 use borrow.Author.Tests.{eq-eqb, ne-eqb}
 use denote.Ref.{now}
 use lib.Dec.{eqb}
 use lib.ListN.{length}
 use Rattle.refusals.proofs.Laws.{judged-fault, demand-holds, demand-fails, orElse-next, orElse-first}
-use Rattle.refusals.specs.Told.{Told, Fault, fine, fault, demand, demandAt, orElse, judged}
+use Rattle.refusals.specs.Told.{Fault, fine, fault, demand, demandAt, orElse, judged}
 use Rattle.ranges.specs.Table.{kFactorOk}
 use Rattle.run.specs.Answers.{proverOk, figuresFault, workedOf, shownOf}
 use Rattle.run.specs.Figures.{figuresOf}
@@ -36,21 +35,6 @@ returns : tie.Need-returns
 unfolding shownOf
 returns c = sym (judged-fault _ (orElse-first _ (demand-fails 1 (ne-eqb _ _ (c .if1 .taken)))))
 
-decode-requires : tie.Need-decode-requires
-decode-requires c κs = search needs
-
-is-prover-requires : tie.Need-is-prover-requires
-is-prover-requires c κs = search needs
-
-is-within-requires : tie.Need-is-within-requires
-is-within-requires c κs = search needs
-
-is-run-requires : tie.Need-is-run-requires
-is-run-requires c κs = search needs
-
-are-zero-requires : tie.Need-are-zero-requires
-are-zero-requires c κs = search needs
-
 abbrev begin : tie.After-are-zero → tie.Start
 begin c = c .before .before .before .before .before .before .before
 
@@ -70,9 +54,6 @@ returns-2 c =
     let s = now (a .bytes) in
     sym (judged-fault (figuresOf (a .prover) (a .k) (runAt s 0)) (orElse-next _ (sized (c .before .before .before .before .before .before)) ∙ unnamed (proverOk (a .prover)) (kFactorOk (a .k)) (fieldsOk (runAt s 0)) (unnamedOk s 0) (figuresFault (figuresOf (a .prover) (a .k) (runAt s 0)) 1) (sym (judges (c .before)) ∙ c .if2 .taken)))
 
-work-out-requires : tie.Need-work-out-requires
-work-out-requires c κs = search needs
-
 returns-3 : tie.Need-returns-3
 unfolding shownOf workedOf
 returns-3 c =
@@ -84,15 +65,4 @@ returns-3 c =
     ∙ ap (λ (f : Fault). judged f (figuresOf (a .prover) (a .k) (runAt s 0))) (named (proverOk (a .prover)) (kFactorOk (a .k)) (fieldsOk (runAt s 0)) (unnamedOk s 0) (figuresFault (figuresOf (a .prover) (a .k) (runAt s 0)) 1) (sym (judges d) ∙ c .before .if2 .left) ∙ sym (orElse-next _ (sized (d .before .before .before .before .before))))
 
 pub show-spec : {M : Type 1} → statement M
-show-spec =
-    tie.close
-    (tie.spec
-    returns
-    decode-requires
-    is-prover-requires
-    is-within-requires
-    is-run-requires
-    are-zero-requires
-    returns-2
-    work-out-requires
-    returns-3)
+show-spec = tie.close (tie.spec returns (search needs) (search needs) (search needs) (search needs) (search needs) returns-2 (search needs) returns-3)

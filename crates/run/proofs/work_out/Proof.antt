@@ -2,23 +2,13 @@
 use mathlib.Core.Bool.{true}
 use mathlib.Core.Path.{_≡_, ap, sym, _∙_}
 use borrow.Author.Needs.{needs}
-use Rattle.refusals.proofs.Laws.{judged-fine, judged-fault, demand-holds, demand-fails, demandAt-holds, demandAt-fails, orElse-next, orElse-first}
+use Rattle.refusals.proofs.Laws.{judged-fault, demand-holds, demand-fails, demandAt-holds, demandAt-fails, orElse-next, orElse-first}
 use Rattle.refusals.specs.Told.{Fault, judged}
 use Rattle.ranges.specs.Table.{kFactorOk}
 use Rattle.run.specs.Figures.{figuresOf}
 use Rattle.run.specs.Answers.{proverOk, workedOf}
-use Rattle.run.specs.Record.{fieldsOk}
 use Rattle.run.proofs.work_out.Statement.{statement}
 use Rattle.run.proofs.work_out.Tie as tie
-
-is-prover-requires : tie.Need-is-prover-requires
-is-prover-requires c κs = search needs
-
-is-within-requires : tie.Need-is-within-requires
-is-within-requires c κs = search needs
-
-is-run-requires : tie.Need-is-run-requires
-is-run-requires c κs = search needs
 
 prover-ok : (c : tie.Then1) → proverOk (c .before .before .args .prover) ≡ true
 prover-ok c = sym (c .before .is-prover .ensures) ∙ c .if1 .taken
@@ -54,14 +44,4 @@ unfolding workedOf
 returns-4 c = sym (judged-fault _ (orElse-first _ (demand-fails 3 (sym (c .before .is-prover .ensures) ∙ c .if1 .left))))
 
 pub work-out-spec : {M : Type 1} → statement M
-work-out-spec =
-    tie.close
-    (tie.spec
-    is-prover-requires
-    is-within-requires
-    is-run-requires
-    judge-figures-requires
-    returns
-    returns-2
-    returns-3
-    returns-4)
+work-out-spec = tie.close (tie.spec (search needs) (search needs) (search needs) judge-figures-requires returns returns-2 returns-3 returns-4)

@@ -36,23 +36,8 @@ net-is c =
     let t = start (c .before .before .before) .args .ticket in
     c .round3 .ensures ∙ ap (λ (n : ℕ). roundedDiv (n * (100000 - t .sediment)) 100000) (gross-is (c .before))
 
-sub-indicated : tie.Need-sub-indicated
-sub-indicated c = search needs
-
-cast-indicated : tie.Need-cast-indicated
-cast-indicated c = search needs
-
-cast-supplied : tie.Need-cast-supplied
-cast-supplied c = search needs
-
-cast-supplied-2 : tie.Need-cast-supplied-2
-cast-supplied-2 c = search needs
-
 mul-supplied : tie.Need-mul-supplied
 mul-supplied c = omega (arith, supplied-small (bounds (c .before .before .before)))
-
-cast-kept : tie.Need-cast-kept
-cast-kept c = search needs
 
 sub-kept : tie.Need-sub-kept
 sub-kept c = bounds (start c) .sediment
@@ -62,17 +47,11 @@ round-requires c κs =
     let t = start c .args .ticket in
     omega (arith, ap (λ (n : ℕ). t .mf * t .ctl * n) (cpl-is (start c)), product-small (bounds (start c)))
 
-cast-round : tie.Need-cast-round
-cast-round c = search needs
-
 round-requires-2 : tie.Need-round-requires-2
 unfolding indicated
 round-requires-2 c κs =
     let t = start (c .before) .args .ticket in
     omega (arith, ap (λ (n : ℕ). (t .closing - t .opening) * n) (factor-is c), measured-small (bounds (start (c .before))))
-
-cast-round-2 : tie.Need-cast-round-2
-cast-round-2 c = search needs
 
 round-requires-3 : tie.Need-round-requires-3
 round-requires-3 c κs =
@@ -86,17 +65,5 @@ returns c = λ i. record { factor = factor-is (c .before .before) i; gross = gro
 pub correct-spec : {M : Type 1} → statement M
 correct-spec =
     tie.close
-    (tie.spec
-    sub-indicated
-    cast-indicated
-    cast-supplied
-    cast-supplied-2
-    mul-supplied
-    cast-kept
-    sub-kept
-    round-requires
-    cast-round
-    round-requires-2
-    cast-round-2
-    round-requires-3
-    returns)
+    (tie.spec (search needs) (search needs) (search needs) (search needs) mul-supplied (search needs) sub-kept round-requires (search needs)
+    round-requires-2 (search needs) round-requires-3 returns)

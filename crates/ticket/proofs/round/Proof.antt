@@ -10,12 +10,6 @@ use Rattle.exact.proofs.Answers.{value-below}
 use Rattle.ticket.proofs.round.Statement.{statement}
 use Rattle.ticket.proofs.round.Tie as tie
 
-rounded-ratio-requires : tie.Need-rounded-ratio-requires
-rounded-ratio-requires c κs = search needs
-
-value-or-zero-requires : tie.Need-value-or-zero-requires
-value-or-zero-requires c κs = search needs
-
 value : (c : tie.After-value-or-zero) → c .value-or-zero .result ≡ roundedDiv (c .before .before .args .a * c .before .before .args .b) (c .before .before .args .d)
 value c =
     let s = c .before .before in
@@ -28,4 +22,4 @@ returns : tie.Need-returns
 returns c = value c
 
 pub round-spec : {M : Type 1} → statement M
-round-spec = tie.close (tie.spec rounded-ratio-requires value-or-zero-requires cast-result returns)
+round-spec = tie.close (tie.spec (search needs) (search needs) cast-result returns)

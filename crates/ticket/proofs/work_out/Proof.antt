@@ -10,12 +10,6 @@ use Rattle.ticket.proofs.Laws.{field-refused, order-refused, worked-out
 use Rattle.ticket.proofs.work_out.Statement.{statement}
 use Rattle.ticket.proofs.work_out.Tie as tie
 
-cpl-requires : tie.Need-cpl-requires
-cpl-requires c κs = search needs
-
-enum-known-cpl : tie.Need-enum-known-cpl
-enum-known-cpl c = search needs
-
 enum-told : tie.Need-enum-told
 enum-told c = search needs
 
@@ -28,9 +22,6 @@ cpl-refused c = liquid-refused _ (sym (ap told-factor (c .enum-told .given .1)) 
 
 returns : tie.Need-returns
 returns c = sym (field-refused _ (cpl-refused c))
-
-fields-fit-requires : tie.Need-fields-fit-requires
-fields-fit-requires c κs = search needs
 
 abbrev start : tie.After-fields-fit → tie.Start
 start c = c .before .before .before .before .before
@@ -51,15 +42,4 @@ returns-4 : tie.Need-returns-4
 returns-4 c = sym (field-refused _ (supplied-refused _ (sym (c .before .fields-fit .ensures) ∙ c .if1 .left)))
 
 pub work-out-spec : {M : Type 1} → statement M
-work-out-spec =
-    tie.close
-    (tie.spec
-    cpl-requires
-    enum-known-cpl
-    enum-told
-    returns
-    fields-fit-requires
-    correct-requires
-    returns-2
-    returns-3
-    returns-4)
+work-out-spec = tie.close (tie.spec (search needs) (search needs) enum-told returns (search needs) correct-requires returns-2 returns-3 returns-4)

@@ -15,24 +15,6 @@ Inv-loop s count₀ i₀ count i = (count + wordCount (drop i s) ≡ wordCount s
 abbrev μ-loop : tie.MeasureT-loop
 μ-loop s count₀ i₀ count i = length s - i
 
-loop-holds : tie.Need-loop-holds Inv-loop μ-loop
-loop-holds c = search needs
-
-shared-slice-read-count-space : tie.Need-shared-slice-read-count-space Inv-loop μ-loop
-shared-slice-read-count-space c = search needs
-
-count-space-requires : tie.Need-count-space-requires Inv-loop μ-loop
-count-space-requires c κs = search needs
-
-add-count : tie.Need-add-count Inv-loop μ-loop
-add-count c = search needs
-
-add-i : tie.Need-add-i Inv-loop μ-loop
-add-i c = search needs
-
-loop-less : tie.Need-loop-less Inv-loop μ-loop
-loop-less c = search needs
-
 loop-again : tie.Need-loop-again Inv-loop μ-loop
 loop-again c = let l = c .before .before .before .loop in let s = c .before .before .before .before .before .args .s .now in omega (arith, count-step s (l .i) (omega arith), c .count-space .ensures .0)
 
@@ -42,14 +24,4 @@ returns c = let l = c .before .loop in let s = c .before .before .before .args .
 pub count-words-spec : {M : Type 1} → statement M
 count-words-spec =
     tie.close
-    (tie.spec
-    Inv-loop
-    μ-loop
-    loop-holds
-    shared-slice-read-count-space
-    count-space-requires
-    add-count
-    add-i
-    loop-less
-    loop-again
-    returns)
+    (tie.spec Inv-loop μ-loop (search needs) (search needs) (search needs) (search needs) (search needs) (search needs) loop-again returns)

@@ -15,20 +15,8 @@ Inv-loop s from i₀ i = (i + length (firstWord (drop i s)) ≡ from + length (f
 abbrev μ-loop : tie.MeasureT-loop
 μ-loop s from i₀ i = length s - i
 
-loop-holds : tie.Need-loop-holds Inv-loop μ-loop
-loop-holds c = search needs
-
-shared-slice-read-if1 : tie.Need-shared-slice-read-if1 Inv-loop μ-loop
-shared-slice-read-if1 c = search needs
-
 returns : tie.Need-returns Inv-loop μ-loop
 returns c = let i = c .before .before .before .loop .i in let s = c .before .before .before .before .args .s .now in (omega (arith, ap length (first-space s i (omega arith) (c .if1 .taken))), omega arith)
-
-add-i : tie.Need-add-i Inv-loop μ-loop
-add-i c = search needs
-
-loop-less : tie.Need-loop-less Inv-loop μ-loop
-loop-less c = search needs
 
 loop-again : tie.Need-loop-again Inv-loop μ-loop
 loop-again c = let i = c .before .before .before .loop .i in let s = c .before .before .before .before .args .s .now in (omega (arith, ap length (first-other s i (omega arith) (c .if1 .left))), omega arith)
@@ -37,15 +25,4 @@ returns-2 : tie.Need-returns-2 Inv-loop μ-loop
 returns-2 c = let i = c .before .loop .i in let s = c .before .before .args .s .now in (omega (arith, ap length (first-end s i (omega arith))), omega arith)
 
 pub end-word-spec : {M : Type 1} → statement M
-end-word-spec =
-    tie.close
-    (tie.spec
-    Inv-loop
-    μ-loop
-    loop-holds
-    shared-slice-read-if1
-    returns
-    add-i
-    loop-less
-    loop-again
-    returns-2)
+end-word-spec = tie.close (tie.spec Inv-loop μ-loop (search needs) (search needs) returns (search needs) (search needs) loop-again returns-2)

@@ -6,12 +6,6 @@ use Rattle.words.proofs.Words.{passed, passed-last}
 use Rattle.words.proofs.pass_word.Statement.{statement}
 use Rattle.words.proofs.pass_word.Tie as tie
 
-end-word-requires : tie.Need-end-word-requires
-end-word-requires c κs = search needs
-
-add-result : tie.Need-add-result
-add-result c = search needs
-
 returns : tie.Need-returns
 returns c = let a = c .before .before .before .args in (passed (a .s .now) (a .from) (c .before .end-word .result) (c .before .end-word .ensures .0), omega arith)
 
@@ -19,4 +13,4 @@ returns-2 : tie.Need-returns-2
 returns-2 c = let a = c .before .before .before .args in (passed-last (a .s .now) (a .from) (c .before .end-word .result) (c .before .end-word .ensures .0) (c .if1 .left), omega arith)
 
 pub pass-word-spec : {M : Type 1} → statement M
-pass-word-spec = tie.close (tie.spec end-word-requires add-result returns returns-2)
+pass-word-spec = tie.close (tie.spec (search needs) (search needs) returns returns-2)

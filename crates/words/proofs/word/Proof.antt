@@ -18,29 +18,8 @@ abbrev μ-loop : tie.MeasureT-loop
 loop-holds : tie.Need-loop-holds Inv-loop μ-loop
 loop-holds c = let a = c .before .args in (word-start (a .n) (a .s .now), omega arith)
 
-pass-word-requires : tie.Need-pass-word-requires Inv-loop μ-loop
-pass-word-requires c κs = search needs
-
-add-i : tie.Need-add-i Inv-loop μ-loop
-add-i c = search needs
-
-loop-less : tie.Need-loop-less Inv-loop μ-loop
-loop-less c = search needs
-
 loop-again : tie.Need-loop-again Inv-loop μ-loop
 loop-again c = let l = c .before .before .loop in let a = c .before .before .before .before .args in (l .inv .0 ∙ word-step (a .n) (l .i) (drop (l .at) (a .s .now)) (omega arith) ∙ ap (wordOf (a .n - (l .i + 1))) (sym (c .pass-word .ensures .0)), omega arith)
-
-end-word-requires : tie.Need-end-word-requires Inv-loop μ-loop
-end-word-requires c κs = search needs
-
-sub-result : tie.Need-sub-result Inv-loop μ-loop
-sub-result c = search needs
-
-part-result-start : tie.Need-part-result-start Inv-loop μ-loop
-part-result-start c = search needs
-
-part-result-end : tie.Need-part-result-end Inv-loop μ-loop
-part-result-end c = search needs
 
 returns : tie.Need-returns Inv-loop μ-loop
 returns c = let l = c .before .before .before .loop in let a = c .before .before .before .before .before .args in let t = drop (l .at) (a .s .now) in let k : c .before .end-word .result - l .at ≡ length (firstWord t) = omega (arith, c .before .end-word .ensures .0) in ap (λ (m : ℕ). take m t) k ∙ taken t ∙ sym (word-last (a .n) (l .i) t (omega arith)) ∙ sym (l .inv .0)
@@ -48,16 +27,5 @@ returns c = let l = c .before .before .before .loop in let a = c .before .before
 pub word-spec : {M : Type 1} → statement M
 word-spec =
     tie.close
-    (tie.spec
-    Inv-loop
-    μ-loop
-    loop-holds
-    pass-word-requires
-    add-i
-    loop-less
-    loop-again
-    end-word-requires
-    sub-result
-    part-result-start
-    part-result-end
-    returns)
+    (tie.spec Inv-loop μ-loop loop-holds (search needs) (search needs) (search needs) loop-again (search needs) (search needs) (search needs)
+    (search needs) returns)

@@ -11,25 +11,11 @@ use Rattle.words.proofs.write_text.Tie as tie
 returns : tie.Need-returns
 returns c = let a = c .before .before .before .args in (sym (place-not (a .out .now) (a .at) (a .text .now) (omega arith)), sym (written-not (a .out .now) (a .at) (a .text .now) (omega arith)))
 
-sub-if2 : tie.Need-sub-if2
-sub-if2 c = search needs
-
 returns-2 : tie.Need-returns-2
 returns-2 c = let a = c .before .before .before .before .args in (sym (place-not (a .out .now) (a .at) (a .text .now) (omega arith)), sym (written-not (a .out .now) (a .at) (a .text .now) (omega arith)))
-
-write-at-requires : tie.Need-write-at-requires
-write-at-requires c κs = search needs
-
-add-result : tie.Need-add-result
-add-result c = search needs
-
-same-length : tie.Need-same-length
-same-length c = search needs
 
 returns-3 : tie.Need-returns-3
 returns-3 c = let a = c .before .before .before .before .before .before .before .before .args in (sym (place-fits (a .out .now) (a .at) (a .text .now) (omega arith)), c .before .before .write-at .ensures)
 
 pub write-text-spec : {M : Type 1} → statement M
-write-text-spec =
-    tie.close
-    (tie.spec returns sub-if2 returns-2 write-at-requires add-result same-length returns-3)
+write-text-spec = tie.close (tie.spec returns (search needs) returns-2 (search needs) (search needs) (search needs) returns-3)

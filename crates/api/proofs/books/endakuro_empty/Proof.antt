@@ -3,11 +3,8 @@ use borrow.Author.Needs.{needs}
 use Rattle.api.proofs.books.endakuro_empty.Statement.{statement}
 use Rattle.api.proofs.books.endakuro_empty.Tie as tie
 
-empty-requires : tie.Need-empty-requires
-empty-requires c κs = search needs
-
 returns : tie.Need-returns
 returns c = c .empty .ensures
 
 pub endakuro-empty-spec : {M : Type 1} → statement M
-endakuro-empty-spec = tie.close (tie.spec empty-requires returns)
+endakuro-empty-spec = tie.close (tie.spec (search needs) returns)

@@ -5,16 +5,10 @@ use borrow.Author.Needs.{needs}
 use Rattle.api.proofs.books.enter.Statement.{statement}
 use Rattle.api.proofs.books.enter.Tie as tie
 
-request-requires : tie.Need-request-requires
-request-requires c κs = search needs
-
-flatten-changed-requires : tie.Need-flatten-changed-requires
-flatten-changed-requires c κs = search needs
-
 returns : tie.Need-returns
 returns c =
     let left = c .before .request .ensures in
     (c .flatten-changed .ensures .0 ∙ ap flatDone (left .0), c .flatten-changed .ensures .1 ∙ left .1)
 
 pub enter-spec : {M : Type 1} → statement M
-enter-spec = tie.close (tie.spec request-requires flatten-changed-requires returns)
+enter-spec = tie.close (tie.spec (search needs) (search needs) returns)

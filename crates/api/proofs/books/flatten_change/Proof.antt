@@ -10,15 +10,6 @@ use Rattle.api.proofs.books.flatten_change.Tie as tie
 enum-told : tie.Need-enum-told
 enum-told c = search needs
 
-enum-known-answer : tie.Need-enum-known-answer
-enum-known-answer c = search needs
-
-give-back-requires : tie.Need-give-back-requires
-give-back-requires c κs = search needs
-
-cast-t5 : tie.Need-cast-t5
-cast-t5 c = search needs
-
 returns : tie.Need-returns
 unfolding flatDone
 returns c = sym (ap (λ (a : Change). flatDone (toldChange a)) (c .enum-told .given .1))
@@ -30,5 +21,4 @@ returns-2 c =
     ∙ sym (ap (λ (a : Change). flatDone (toldChange a)) (c .before .before .before .answer .given .1))
 
 pub flatten-change-spec : {M : Type 1} → statement M
-flatten-change-spec =
-    tie.close (tie.spec enum-told enum-known-answer give-back-requires cast-t5 returns returns-2)
+flatten-change-spec = tie.close (tie.spec enum-told (search needs) (search needs) (search needs) returns returns-2)

@@ -4,11 +4,8 @@ use borrow.Author.Needs.{needs}
 use Rattle.api.proofs.books.flatten_changed.Statement.{statement}
 use Rattle.api.proofs.books.flatten_changed.Tie as tie
 
-flatten-change-requires : tie.Need-flatten-change-requires
-flatten-change-requires c κs = search needs
-
 returns : tie.Need-returns
 returns c = (c .flatten-change .ensures, refl)
 
 pub flatten-changed-spec : {M : Type 1} → statement M
-flatten-changed-spec = tie.close (tie.spec flatten-change-requires returns)
+flatten-changed-spec = tie.close (tie.spec (search needs) returns)

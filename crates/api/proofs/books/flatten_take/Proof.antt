@@ -1,5 +1,5 @@
 -- `api::books::flatten_take` meets its contract: each case of the answer is told as it is flattened.
-use mathlib.Core.Path.{_≡_, ap, sym, _∙_}
+use mathlib.Core.Path.{ap, sym, _∙_}
 use borrow.Author.Needs.{needs}
 use Rattle.refusals.specs.declared.GivenBack.{GivenBack}
 use Rattle.book.specs.Answers.{toldTake}
@@ -7,18 +7,6 @@ use Rattle.book.specs.declared.Handout.{Handout}
 use Rattle.api.specs.Flat.{flatTaken, takenWith, noHandout}
 use Rattle.api.proofs.books.flatten_take.Statement.{statement}
 use Rattle.api.proofs.books.flatten_take.Tie as tie
-
-enum-known-answer : tie.Need-enum-known-answer
-enum-known-answer c = search needs
-
-enum-known-answer-2 : tie.Need-enum-known-answer-2
-enum-known-answer-2 c = search needs
-
-give-back-requires : tie.Need-give-back-requires
-give-back-requires c κs = search needs
-
-cast-t7 : tie.Need-cast-t7
-cast-t7 c = search needs
 
 returns : tie.Need-returns
 unfolding flatTaken
@@ -31,6 +19,4 @@ returns-2 c =
     ∙ sym (ap (λ (a : Handout). flatTaken (toldTake a)) (c .before .before .before .answer2 .given .1))
 
 pub flatten-take-spec : {M : Type 1} → statement M
-flatten-take-spec =
-    tie.close
-    (tie.spec enum-known-answer enum-known-answer-2 give-back-requires cast-t7 returns returns-2)
+flatten-take-spec = tie.close (tie.spec (search needs) (search needs) (search needs) (search needs) returns returns-2)

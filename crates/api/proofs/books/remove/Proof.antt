@@ -5,16 +5,10 @@ use borrow.Author.Needs.{needs}
 use Rattle.api.proofs.books.remove.Statement.{statement}
 use Rattle.api.proofs.books.remove.Tie as tie
 
-withdraw-requires : tie.Need-withdraw-requires
-withdraw-requires c κs = search needs
-
-flatten-changed-requires : tie.Need-flatten-changed-requires
-flatten-changed-requires c κs = search needs
-
 returns : tie.Need-returns
 returns c =
     let left = c .before .withdraw .ensures in
     (c .flatten-changed .ensures .0 ∙ ap flatDone (left .0), c .flatten-changed .ensures .1 ∙ left .1)
 
 pub remove-spec : {M : Type 1} → statement M
-remove-spec = tie.close (tie.spec withdraw-requires flatten-changed-requires returns)
+remove-spec = tie.close (tie.spec (search needs) (search needs) returns)

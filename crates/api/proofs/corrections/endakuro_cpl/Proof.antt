@@ -1,5 +1,5 @@
 -- `api::corrections::endakuro_cpl` meets its contract: the answer of `factors::cpl`, flattened.
-use mathlib.Core.Path.{_≡_, ap, _∙_}
+use mathlib.Core.Path.{ap, _∙_}
 use Rattle.factors.specs.Answers.{cplOf}
 use Rattle.factors.specs.Places.{digits}
 use Rattle.factors.specs.declared.Places.{Places}
@@ -8,20 +8,10 @@ use borrow.Author.Needs.{needs}
 use Rattle.api.proofs.corrections.endakuro_cpl.Statement.{statement}
 use Rattle.api.proofs.corrections.endakuro_cpl.Tie as tie
 
-choose-places-requires : tie.Need-choose-places-requires
-choose-places-requires c κs = search needs
-
-cpl-requires : tie.Need-cpl-requires
-cpl-requires c κs = search needs
-
-flatten-requires : tie.Need-flatten-requires
-flatten-requires c κs = search needs
-
 returns : tie.Need-returns
 returns c =
     let a = c .before .before .before .args in
     c .flatten .ensures ∙ ap flatFactor (c .before .cpl .ensures ∙ ap (λ (d : Places). cplOf (digits d) (a .f) (a .p)) (c .before .before .choose-places .ensures))
 
 pub endakuro-cpl-spec : {M : Type 1} → statement M
-endakuro-cpl-spec =
-    tie.close (tie.spec choose-places-requires cpl-requires flatten-requires returns)
+endakuro-cpl-spec = tie.close (tie.spec (search needs) (search needs) (search needs) returns)

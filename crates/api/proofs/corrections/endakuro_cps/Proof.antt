@@ -1,5 +1,5 @@
 -- `api::corrections::endakuro_cps` meets its contract: the answer of `factors::cps`, flattened.
-use mathlib.Core.Path.{_≡_, ap, _∙_}
+use mathlib.Core.Path.{ap, _∙_}
 use Rattle.factors.specs.Answers.{cpsOf}
 use Rattle.factors.specs.Places.{digits}
 use Rattle.factors.specs.declared.Places.{Places}
@@ -9,20 +9,10 @@ use borrow.Author.Needs.{needs}
 use Rattle.api.proofs.corrections.endakuro_cps.Statement.{statement}
 use Rattle.api.proofs.corrections.endakuro_cps.Tie as tie
 
-choose-places-requires : tie.Need-choose-places-requires
-choose-places-requires c κs = search needs
-
-cps-requires : tie.Need-cps-requires
-cps-requires c κs = search needs
-
-flatten-requires : tie.Need-flatten-requires
-flatten-requires c κs = search needs
-
 returns : tie.Need-returns
 returns c =
     let a = c .before .before .before .args in
     c .flatten .ensures ∙ ap flatFactor (c .before .cps .ensures ∙ ap (λ (d : Places). cpsOf (digits d) (pipeBy (a .diameter) (a .wall) (a .modulus)) (a .p)) (c .before .before .choose-places .ensures))
 
 pub endakuro-cps-spec : {M : Type 1} → statement M
-endakuro-cps-spec =
-    tie.close (tie.spec choose-places-requires cps-requires flatten-requires returns)
+endakuro-cps-spec = tie.close (tie.spec (search needs) (search needs) (search needs) returns)

@@ -1,5 +1,5 @@
 -- `api::corrections::endakuro_cts` meets its contract: the answer of `factors::cts`, flattened.
-use mathlib.Core.Path.{_≡_, ap, _∙_}
+use mathlib.Core.Path.{ap, _∙_}
 use mir.Syntax.{w16}
 use mir.ValLaws.{toZ-ofZ}
 use Rattle.factors.specs.Answers.{ctsOf}
@@ -9,24 +9,10 @@ use borrow.Author.Needs.{needs}
 use Rattle.api.proofs.corrections.endakuro_cts.Statement.{statement}
 use Rattle.api.proofs.corrections.endakuro_cts.Tie as tie
 
-choose-metal-requires : tie.Need-choose-metal-requires
-choose-metal-requires c κs = search needs
-
-choose-places-requires : tie.Need-choose-places-requires
-choose-places-requires c κs = search needs
-
-cts-requires : tie.Need-cts-requires
-cts-requires c κs = search needs
-
-flatten-requires : tie.Need-flatten-requires
-flatten-requires c κs = search needs
-
 returns : tie.Need-returns
 returns c =
     let s = c .before .before .before .before in
     c .flatten .ensures ∙ ap flatFactor (c .before .cts .ensures ∙ (λ i. ctsOf (digits (c .before .before .choose-places .ensures i)) (c .before .before .before .choose-metal .ensures i) (toZ-ofZ w16 (s .args .t) (s .fits .t) i)))
 
 pub endakuro-cts-spec : {M : Type 1} → statement M
-endakuro-cts-spec =
-    tie.close
-    (tie.spec choose-metal-requires choose-places-requires cts-requires flatten-requires returns)
+endakuro-cts-spec = tie.close (tie.spec (search needs) (search needs) (search needs) (search needs) returns)

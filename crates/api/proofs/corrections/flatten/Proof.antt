@@ -1,5 +1,5 @@
 -- `api::corrections::flatten` meets its contract: each case of the answer is told as it is flattened.
-use mathlib.Core.Path.{_≡_, ap, sym, _∙_}
+use mathlib.Core.Path.{ap, sym, _∙_}
 use borrow.Author.Needs.{needs}
 use Rattle.refusals.specs.declared.GivenBack.{GivenBack}
 use Rattle.factors.specs.Answers.{told}
@@ -7,18 +7,6 @@ use Rattle.factors.specs.declared.Factor.{Factor}
 use Rattle.api.specs.Flat.{flatFactor, factorWith}
 use Rattle.api.proofs.corrections.flatten.Statement.{statement}
 use Rattle.api.proofs.corrections.flatten.Tie as tie
-
-enum-known-factor : tie.Need-enum-known-factor
-enum-known-factor c = search needs
-
-enum-known-factor-2 : tie.Need-enum-known-factor-2
-enum-known-factor-2 c = search needs
-
-give-back-requires : tie.Need-give-back-requires
-give-back-requires c κs = search needs
-
-cast-t6 : tie.Need-cast-t6
-cast-t6 c = search needs
 
 returns : tie.Need-returns
 unfolding flatFactor
@@ -31,6 +19,4 @@ returns-2 c =
     ∙ sym (ap (λ (a : Factor). flatFactor (told a)) (c .before .before .before .factor2 .given .1))
 
 pub flatten-spec : {M : Type 1} → statement M
-flatten-spec =
-    tie.close
-    (tie.spec enum-known-factor enum-known-factor-2 give-back-requires cast-t6 returns returns-2)
+flatten-spec = tie.close (tie.spec (search needs) (search needs) (search needs) (search needs) returns returns-2)

@@ -1,35 +1,18 @@
 -- `api::jobs::endakuro_accept` meets its contract: the report's first run is where the accepted runs begin.
 use mathlib.Core.Path.{_≡_, ap, sym, _∙_}
-use Prim.Native.Nat.{ℕ, _+_, _*_, _-_, _≤_}
+use Prim.Native.Nat.{ℕ, _-_}
 use native.Mathlib.Omega.{arith}
 use denote.Ref.{now}
 use Rattle.factors.specs.declared.Prover.{Prover}
-use Rattle.refusals.specs.Told.{Told, done}
+use Rattle.refusals.specs.Told.{done}
 use Rattle.report.specs.Judged.{told}
-use Rattle.report.specs.declared.Report.{Report}
-use Rattle.proving.specs.Job.{jobOf, foundOf}
+use Rattle.proving.specs.Job.{jobOf}
 use Rattle.proving.proofs.Accepted.{same-number, Begins, done-begins}
 use Rattle.api.specs.Flat.{partOf}
-use Rattle.api.specs.declared.jobs.EndakuroPart.{EndakuroPart}
 use Rattle.api.specs.Given.{proverBy}
 use borrow.Author.Needs.{needs}
 use Rattle.api.proofs.jobs.endakuro_accept.Statement.{statement}
 use Rattle.api.proofs.jobs.endakuro_accept.Tie as tie
-
-take-up-requires : tie.Need-take-up-requires
-take-up-requires c κs = search needs
-
-slice-aggregate-prove : tie.Need-slice-aggregate-prove
-slice-aggregate-prove c = search needs
-
-prove-requires : tie.Need-prove-requires
-prove-requires c κs = search needs
-
-enum-known-job : tie.Need-enum-known-job
-enum-known-job c = search needs
-
-cast-t12 : tie.Need-cast-t12
-cast-t12 c = search needs
 
 abbrev start : tie.After-unread2 → tie.Start
 start c = c .before .before .before .before .before
@@ -52,9 +35,6 @@ begun c =
 sub-t13 : tie.Need-sub-t13
 sub-t13 c = omega (arith, begun c .first)
 
-mul-t14 : tie.Need-mul-t14
-mul-t14 c = search needs
-
 enum-told : tie.Need-enum-told
 enum-told c = search needs
 
@@ -73,14 +53,4 @@ returns-2 c =
 pub endakuro-accept-spec : {M : Type 1} → statement M
 endakuro-accept-spec =
     tie.close
-    (tie.spec
-    take-up-requires
-    slice-aggregate-prove
-    prove-requires
-    enum-known-job
-    cast-t12
-    sub-t13
-    mul-t14
-    enum-told
-    returns
-    returns-2)
+    (tie.spec (search needs) (search needs) (search needs) (search needs) (search needs) sub-t13 (search needs) enum-told returns returns-2)

@@ -1,5 +1,5 @@
 -- `api::jobs::endakuro_prove` meets its contract: the answer of `proving::prove`, flattened, and the bytes that it leaves.
-use mathlib.Core.Path.{_≡_, ap, _∙_}
+use mathlib.Core.Path.{ap, _∙_}
 use denote.Ref.{now}
 use lib.ListN.{length}
 use Rattle.factors.specs.declared.Prover.{Prover}
@@ -10,18 +10,6 @@ use borrow.Author.Needs.{needs}
 use Rattle.api.proofs.jobs.endakuro_prove.Statement.{statement}
 use Rattle.api.proofs.jobs.endakuro_prove.Tie as tie
 
-take-up-requires : tie.Need-take-up-requires
-take-up-requires c κs = search needs
-
-prove-requires : tie.Need-prove-requires
-prove-requires c κs = search needs
-
-flatten-requires : tie.Need-flatten-requires
-flatten-requires c κs = search needs
-
-same-length : tie.Need-same-length
-same-length c = search needs
-
 returns : tie.Need-returns
 returns c =
     let w = c .before .before .before in
@@ -30,5 +18,4 @@ returns c =
     (c .flatten .ensures ∙ ap flatReport (w .prove .ensures .0 ∙ job), w .prove .ensures .1 ∙ (λ i. leftBy (job i) (now (a .buffer))))
 
 pub endakuro-prove-spec : {M : Type 1} → statement M
-endakuro-prove-spec =
-    tie.close (tie.spec take-up-requires prove-requires flatten-requires same-length returns)
+endakuro-prove-spec = tie.close (tie.spec (search needs) (search needs) (search needs) (search needs) returns)

@@ -1,5 +1,5 @@
 -- `api::jobs::endakuro_run` meets its contract: the answer of `run::show`, flattened.
-use mathlib.Core.Path.{_≡_, ap, _∙_}
+use mathlib.Core.Path.{ap, _∙_}
 use denote.Ref.{now}
 use Rattle.factors.specs.declared.Prover.{Prover}
 use Rattle.run.specs.Answers.{shownOf}
@@ -8,20 +8,10 @@ use borrow.Author.Needs.{needs}
 use Rattle.api.proofs.jobs.endakuro_run.Statement.{statement}
 use Rattle.api.proofs.jobs.endakuro_run.Tie as tie
 
-take-up-requires : tie.Need-take-up-requires
-take-up-requires c κs = search needs
-
-show-requires : tie.Need-show-requires
-show-requires c κs = search needs
-
-flatten-run-requires : tie.Need-flatten-run-requires
-flatten-run-requires c κs = search needs
-
 returns : tie.Need-returns
 returns c =
     let a = c .before .before .before .before .args in
     c .flatten-run .ensures ∙ ap flatRun (c .before .show .ensures ∙ ap (λ (p : Prover). shownOf p (a .k) (now (a .bytes))) (c .before .before .take-up .ensures))
 
 pub endakuro-run-spec : {M : Type 1} → statement M
-endakuro-run-spec =
-    tie.close (tie.spec take-up-requires show-requires flatten-run-requires returns)
+endakuro-run-spec = tie.close (tie.spec (search needs) (search needs) (search needs) returns)

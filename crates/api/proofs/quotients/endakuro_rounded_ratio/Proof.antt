@@ -1,21 +1,12 @@
 -- `api::quotients::endakuro_rounded_ratio` meets its contract: each case of the quotient is flattened.
-use mathlib.Core.Path.{_≡_, ap, sym, _∙_}
+use mathlib.Core.Path.{ap, sym, _∙_}
 use Rattle.api.specs.Flat.{flatQuotient}
 use borrow.Author.Needs.{needs}
 use Rattle.api.proofs.quotients.endakuro_rounded_ratio.Statement.{statement}
 use Rattle.api.proofs.quotients.endakuro_rounded_ratio.Tie as tie
 
-rounded-ratio-requires : tie.Need-rounded-ratio-requires
-rounded-ratio-requires c κs = search needs
-
-enum-known-quotient : tie.Need-enum-known-quotient
-enum-known-quotient c = search needs
-
 enum-told : tie.Need-enum-told
 enum-told c = search needs
-
-enum-told-2 : tie.Need-enum-told-2
-enum-told-2 c = search needs
 
 returns : tie.Need-returns
 returns c = ap flatQuotient (sym (c .before .quotient .given .1) ∙ c .before .before .before .rounded-ratio .ensures)
@@ -27,13 +18,4 @@ returns-3 : tie.Need-returns-3
 returns-3 c = ap flatQuotient (sym (c .enum-told2 .given .1) ∙ c .before .before .rounded-ratio .ensures)
 
 pub endakuro-rounded-ratio-spec : {M : Type 1} → statement M
-endakuro-rounded-ratio-spec =
-    tie.close
-    (tie.spec
-    rounded-ratio-requires
-    enum-known-quotient
-    enum-told
-    enum-told-2
-    returns
-    returns-2
-    returns-3)
+endakuro-rounded-ratio-spec = tie.close (tie.spec (search needs) (search needs) enum-told (search needs) returns returns-2 returns-3)

@@ -1,28 +1,14 @@
 -- `api::readings::flatten` meets its contract: each case of the answer is flattened as it is told.
 use mathlib.Core.Path.{_≡_, ap, sym, _∙_}
-use lib.IntN.{ℤ}
 use mir.Syntax.{w16}
 use mir.Val.{toZ, ofZ}
 use Rattle.refusals.specs.declared.GivenBack.{GivenBack}
 use Rattle.live.specs.Live.{told}
 use Rattle.live.specs.declared.Live.{Live}
-use Rattle.api.specs.declared.readings.EndakuroLive.{EndakuroLive}
 use Rattle.api.specs.Flat.{flatLive, liveWith, noReading}
 use borrow.Author.Needs.{needs}
 use Rattle.api.proofs.readings.flatten.Statement.{statement}
 use Rattle.api.proofs.readings.flatten.Tie as tie
-
-enum-known-live : tie.Need-enum-known-live
-enum-known-live c = search needs
-
-enum-known-live-2 : tie.Need-enum-known-live-2
-enum-known-live-2 c = search needs
-
-give-back-requires : tie.Need-give-back-requires
-give-back-requires c κs = search needs
-
-cast-t7 : tie.Need-cast-t7
-cast-t7 c = search needs
 
 -- what the machine reads back of a signed number is that number
 tenths-back : (c : tie.After-known-told) → toZ w16 (ofZ w16 (c .before .live .given .0 .0)) ≡ c .before .live .given .0 .0
@@ -41,6 +27,4 @@ returns-2 c =
     ∙ sym (ap (λ (a : Live). flatLive (told a)) (c .before .before .before .live2 .given .1))
 
 pub flatten-spec : {M : Type 1} → statement M
-flatten-spec =
-    tie.close
-    (tie.spec enum-known-live enum-known-live-2 give-back-requires cast-t7 returns returns-2)
+flatten-spec = tie.close (tie.spec (search needs) (search needs) (search needs) (search needs) returns returns-2)

@@ -1,18 +1,12 @@
 -- `api::reports::endakuro_read` meets its contract: the answer of `report::read`, flattened.
-use mathlib.Core.Path.{_≡_, ap, _∙_}
+use mathlib.Core.Path.{ap, _∙_}
 use Rattle.api.specs.Flat.{flatReport}
 use borrow.Author.Needs.{needs}
 use Rattle.api.proofs.reports.endakuro_read.Statement.{statement}
 use Rattle.api.proofs.reports.endakuro_read.Tie as tie
 
-read-requires : tie.Need-read-requires
-read-requires c κs = search needs
-
-flatten-requires : tie.Need-flatten-requires
-flatten-requires c κs = search needs
-
 returns : tie.Need-returns
 returns c = c .flatten .ensures ∙ ap flatReport (c .before .read .ensures)
 
 pub endakuro-read-spec : {M : Type 1} → statement M
-endakuro-read-spec = tie.close (tie.spec read-requires flatten-requires returns)
+endakuro-read-spec = tie.close (tie.spec (search needs) (search needs) returns)

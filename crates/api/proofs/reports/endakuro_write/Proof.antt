@@ -1,18 +1,9 @@
 -- `api::reports::endakuro_write` meets its contract: the answer of `report::write`, flattened, and the bytes that it leaves.
-use mathlib.Core.Path.{_≡_, ap, _∙_}
+use mathlib.Core.Path.{ap, _∙_}
 use Rattle.api.specs.Flat.{flatReport}
 use borrow.Author.Needs.{needs}
 use Rattle.api.proofs.reports.endakuro_write.Statement.{statement}
 use Rattle.api.proofs.reports.endakuro_write.Tie as tie
-
-write-requires : tie.Need-write-requires
-write-requires c κs = search needs
-
-flatten-requires : tie.Need-flatten-requires
-flatten-requires c κs = search needs
-
-same-length : tie.Need-same-length
-same-length c = search needs
 
 returns : tie.Need-returns
 returns c =
@@ -20,4 +11,4 @@ returns c =
     (c .flatten .ensures ∙ ap flatReport (w .write .ensures .0), w .write .ensures .1)
 
 pub endakuro-write-spec : {M : Type 1} → statement M
-endakuro-write-spec = tie.close (tie.spec write-requires flatten-requires same-length returns)
+endakuro-write-spec = tie.close (tie.spec (search needs) (search needs) (search needs) returns)

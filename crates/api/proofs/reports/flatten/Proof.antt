@@ -1,5 +1,5 @@
 -- `api::reports::flatten` meets its contract: each case of the answer is flattened as it is told.
-use mathlib.Core.Path.{_≡_, ap, sym, _∙_}
+use mathlib.Core.Path.{ap, sym, _∙_}
 use Rattle.refusals.specs.declared.GivenBack.{GivenBack}
 use Rattle.report.specs.Judged.{told}
 use Rattle.report.specs.declared.Answer.{Answer}
@@ -7,18 +7,6 @@ use Rattle.api.specs.Flat.{flatReport, reportWith, noReport}
 use borrow.Author.Needs.{needs}
 use Rattle.api.proofs.reports.flatten.Statement.{statement}
 use Rattle.api.proofs.reports.flatten.Tie as tie
-
-enum-known-answer : tie.Need-enum-known-answer
-enum-known-answer c = search needs
-
-enum-known-answer-2 : tie.Need-enum-known-answer-2
-enum-known-answer-2 c = search needs
-
-give-back-requires : tie.Need-give-back-requires
-give-back-requires c κs = search needs
-
-cast-t7 : tie.Need-cast-t7
-cast-t7 c = search needs
 
 returns : tie.Need-returns
 unfolding flatReport
@@ -31,6 +19,4 @@ returns-2 c =
     ∙ sym (ap (λ (a : Answer). flatReport (told a)) (c .before .before .before .answer2 .given .1))
 
 pub flatten-spec : {M : Type 1} → statement M
-flatten-spec =
-    tie.close
-    (tie.spec enum-known-answer enum-known-answer-2 give-back-requires cast-t7 returns returns-2)
+flatten-spec = tie.close (tie.spec (search needs) (search needs) (search needs) (search needs) returns returns-2)

@@ -1,7 +1,6 @@
 -- `api::settings::choose_places` meets its contract.
 use borrow.Author.Tests.{eq-eqb, ne-eqb}
 use Rattle.api.specs.Given.{placesBy}
-use borrow.Author.Needs.{needs}
 use Rattle.api.proofs.settings.choose_places.Statement.{statement}
 use Rattle.api.proofs.settings.choose_places.Tie as tie
 

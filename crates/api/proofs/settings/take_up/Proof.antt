@@ -1,12 +1,8 @@
 -- `api::settings::take_up` meets its contract: the metal is chosen, the rest is as given.
-use Rattle.factors.specs.declared.Prover.{Prover}
 use Rattle.api.specs.Given.{pipeBy}
 use borrow.Author.Needs.{needs}
 use Rattle.api.proofs.settings.take_up.Statement.{statement}
 use Rattle.api.proofs.settings.take_up.Tie as tie
-
-choose-metal-requires : tie.Need-choose-metal-requires
-choose-metal-requires c κs = search needs
 
 returns : tie.Need-returns
 returns c =
@@ -14,4 +10,4 @@ returns c =
     λ i. record { metal = c .choose-metal .ensures i; pipe = pipeBy (given .diameter) (given .wall) (given .modulus); base = given .base }
 
 pub take-up-spec : {M : Type 1} → statement M
-take-up-spec = tie.close (tie.spec choose-metal-requires returns)
+take-up-spec = tie.close (tie.spec (search needs) returns)

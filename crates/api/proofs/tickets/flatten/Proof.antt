@@ -1,5 +1,5 @@
 -- `api::tickets::flatten` meets its contract: each case of the answer is told as it is flattened.
-use mathlib.Core.Path.{_≡_, ap, sym, _∙_}
+use mathlib.Core.Path.{ap, sym, _∙_}
 use borrow.Author.Needs.{needs}
 use Rattle.refusals.specs.declared.GivenBack.{GivenBack}
 use Rattle.ticket.specs.Answers.{told}
@@ -7,18 +7,6 @@ use Rattle.ticket.specs.declared.Outcome.{Outcome}
 use Rattle.api.specs.Flat.{flatVolumes, volumesWith, noVolumes}
 use Rattle.api.proofs.tickets.flatten.Statement.{statement}
 use Rattle.api.proofs.tickets.flatten.Tie as tie
-
-enum-known-outcome : tie.Need-enum-known-outcome
-enum-known-outcome c = search needs
-
-enum-known-outcome-2 : tie.Need-enum-known-outcome-2
-enum-known-outcome-2 c = search needs
-
-give-back-requires : tie.Need-give-back-requires
-give-back-requires c κs = search needs
-
-cast-t6 : tie.Need-cast-t6
-cast-t6 c = search needs
 
 returns : tie.Need-returns
 unfolding flatVolumes
@@ -31,6 +19,4 @@ returns-2 c =
     ∙ sym (ap (λ (a : Outcome). flatVolumes (told a)) (c .before .before .before .outcome2 .given .1))
 
 pub flatten-spec : {M : Type 1} → statement M
-flatten-spec =
-    tie.close
-    (tie.spec enum-known-outcome enum-known-outcome-2 give-back-requires cast-t6 returns returns-2)
+flatten-spec = tie.close (tie.spec (search needs) (search needs) (search needs) (search needs) returns returns-2)

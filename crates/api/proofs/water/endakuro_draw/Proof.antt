@@ -1,5 +1,5 @@
 -- `api::water::endakuro_draw` meets its contract: the answer of `draw::draw`, flattened.
-use mathlib.Core.Path.{_≡_, ap, _∙_}
+use mathlib.Core.Path.{ap, _∙_}
 use denote.Ref.{now}
 use Rattle.factors.specs.declared.Prover.{Prover}
 use Rattle.draw.specs.Answers.{drawOf}
@@ -8,20 +8,10 @@ use borrow.Author.Needs.{needs}
 use Rattle.api.proofs.water.endakuro_draw.Statement.{statement}
 use Rattle.api.proofs.water.endakuro_draw.Tie as tie
 
-take-up-requires : tie.Need-take-up-requires
-take-up-requires c κs = search needs
-
-draw-requires : tie.Need-draw-requires
-draw-requires c κs = search needs
-
-flatten-draw-requires : tie.Need-flatten-draw-requires
-flatten-draw-requires c κs = search needs
-
 returns : tie.Need-returns
 returns c =
     let a = c .before .before .before .before .args in
     c .flatten-draw .ensures ∙ ap flatDraw (c .before .draw .ensures ∙ ap (λ (p : Prover). drawOf p (now (a .records))) (c .before .before .take-up .ensures))
 
 pub endakuro-draw-spec : {M : Type 1} → statement M
-endakuro-draw-spec =
-    tie.close (tie.spec take-up-requires draw-requires flatten-draw-requires returns)
+endakuro-draw-spec = tie.close (tie.spec (search needs) (search needs) (search needs) returns)

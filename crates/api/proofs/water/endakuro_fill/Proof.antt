@@ -1,5 +1,5 @@
 -- `api::water::endakuro_fill` meets its contract: the answer of `draw::fill`, flattened.
-use mathlib.Core.Path.{_≡_, ap, _∙_}
+use mathlib.Core.Path.{ap, _∙_}
 use denote.Ref.{now}
 use Rattle.factors.specs.declared.Metal.{Metal}
 use Rattle.draw.specs.Answers.{fillOf}
@@ -8,20 +8,10 @@ use borrow.Author.Needs.{needs}
 use Rattle.api.proofs.water.endakuro_fill.Statement.{statement}
 use Rattle.api.proofs.water.endakuro_fill.Tie as tie
 
-choose-metal-requires : tie.Need-choose-metal-requires
-choose-metal-requires c κs = search needs
-
-fill-requires : tie.Need-fill-requires
-fill-requires c κs = search needs
-
-flatten-fill-requires : tie.Need-flatten-fill-requires
-flatten-fill-requires c κs = search needs
-
 returns : tie.Need-returns
 returns c =
     let a = c .before .before .before .before .args in
     c .flatten-fill .ensures ∙ ap flatFill (c .before .fill .ensures ∙ ap (λ (m : Metal). fillOf m (now (a .bytes))) (c .before .before .choose-metal .ensures))
 
 pub endakuro-fill-spec : {M : Type 1} → statement M
-endakuro-fill-spec =
-    tie.close (tie.spec choose-metal-requires fill-requires flatten-fill-requires returns)
+endakuro-fill-spec = tie.close (tie.spec (search needs) (search needs) (search needs) returns)

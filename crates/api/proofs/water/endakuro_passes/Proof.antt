@@ -1,5 +1,5 @@
 -- `api::water::endakuro_passes` meets its contract: the answer of `draw::passes`, flattened, and its volumes.
-use mathlib.Core.Path.{_≡_, ap, _∙_}
+use mathlib.Core.Path.{ap, _∙_}
 use denote.Ref.{now}
 use Rattle.factors.specs.declared.Prover.{Prover}
 use Rattle.draw.specs.Answers.{passesOf, heldFor}
@@ -8,15 +8,6 @@ use borrow.Author.Needs.{needs}
 use Rattle.api.proofs.water.endakuro_passes.Statement.{statement}
 use Rattle.api.proofs.water.endakuro_passes.Tie as tie
 
-take-up-requires : tie.Need-take-up-requires
-take-up-requires c κs = search needs
-
-passes-requires : tie.Need-passes-requires
-passes-requires c κs = search needs
-
-flatten-passes-requires : tie.Need-flatten-passes-requires
-flatten-passes-requires c κs = search needs
-
 returns : tie.Need-returns
 returns c =
     let p = c .before .before in
@@ -24,5 +15,4 @@ returns c =
     c .flatten-passes .ensures ∙ (λ i. flatPasses (p .passes .ensures .0 i) (p .passes .ensures .1 i)) ∙ ap (λ (p : Prover). flatPasses (passesOf p s) (heldFor p s (passesOf p s))) (p .before .take-up .ensures)
 
 pub endakuro-passes-spec : {M : Type 1} → statement M
-endakuro-passes-spec =
-    tie.close (tie.spec take-up-requires passes-requires flatten-passes-requires returns)
+endakuro-passes-spec = tie.close (tie.spec (search needs) (search needs) (search needs) returns)

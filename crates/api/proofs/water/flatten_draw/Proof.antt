@@ -1,5 +1,5 @@
 -- `api::water::flatten_draw` meets its contract: each case of the answer is told as it is flattened.
-use mathlib.Core.Path.{_≡_, ap, sym, _∙_}
+use mathlib.Core.Path.{ap, sym, _∙_}
 use borrow.Author.Needs.{needs}
 use Rattle.refusals.specs.declared.GivenBack.{GivenBack}
 use Rattle.draw.specs.Answers.{toldDraw}
@@ -7,18 +7,6 @@ use Rattle.draw.specs.declared.WaterDraw.{WaterDraw}
 use Rattle.api.specs.Flat.{flatDraw, drawWith, noBase}
 use Rattle.api.proofs.water.flatten_draw.Statement.{statement}
 use Rattle.api.proofs.water.flatten_draw.Tie as tie
-
-enum-known-answer : tie.Need-enum-known-answer
-enum-known-answer c = search needs
-
-enum-known-answer-2 : tie.Need-enum-known-answer-2
-enum-known-answer-2 c = search needs
-
-give-back-requires : tie.Need-give-back-requires
-give-back-requires c κs = search needs
-
-cast-t6 : tie.Need-cast-t6
-cast-t6 c = search needs
 
 returns : tie.Need-returns
 unfolding flatDraw
@@ -31,6 +19,4 @@ returns-2 c =
     ∙ sym (ap (λ (a : WaterDraw). flatDraw (toldDraw a)) (c .before .before .before .answer2 .given .1))
 
 pub flatten-draw-spec : {M : Type 1} → statement M
-flatten-draw-spec =
-    tie.close
-    (tie.spec enum-known-answer enum-known-answer-2 give-back-requires cast-t6 returns returns-2)
+flatten-draw-spec = tie.close (tie.spec (search needs) (search needs) (search needs) (search needs) returns returns-2)

@@ -31,29 +31,11 @@ add-shipper c = let last = sound-last _ (c .before .before .pre) in omega arith
 loop-holds : tie.Need-loop-holds Inv-loop μ-loop
 loop-holds c = (omega arith, refl, omega arith)
 
-cast-at : tie.Need-cast-at Inv-loop μ-loop
-cast-at c = omega arith
-
-mul-if1 : tie.Need-mul-if1 Inv-loop μ-loop
-mul-if1 c = omega arith
-
-element-copy-out-if1 : tie.Need-element-copy-out-if1 Inv-loop μ-loop
-element-copy-out-if1 c = omega arith
-
 returns : tie.Need-returns Inv-loop μ-loop
 unfolding anyIn
 returns c =
     let turn = c .before in
     found (turn .before .before .before .before) (turn .before .loop .inv .1 ∙ first-hit (anyIn (turn .before .before .before .before .args .book .lines)) (turn .before .loop .tries) (turn .before .loop .shipper) (turn .loop-test .taken) (lt-ltb _ _ (c .if1 .taken)))
-
-add-shipper-2 : tie.Need-add-shipper-2 Inv-loop μ-loop
-add-shipper-2 c = omega arith
-
-sub-tries : tie.Need-sub-tries Inv-loop μ-loop
-sub-tries c = omega arith
-
-loop-less : tie.Need-loop-less Inv-loop μ-loop
-loop-less c = omega arith
 
 loop-again : tie.Need-loop-again Inv-loop μ-loop
 unfolding anyIn following shippers
@@ -70,17 +52,5 @@ returns-2 c =
 pub find-next-spec : {M : Type 1} → statement M
 find-next-spec =
     tie.close
-    (tie.spec
-    Inv-loop
-    μ-loop
-    add-shipper
-    loop-holds
-    cast-at
-    mul-if1
-    element-copy-out-if1
-    returns
-    add-shipper-2
-    sub-tries
-    loop-less
-    loop-again
-    returns-2)
+    (tie.spec Inv-loop μ-loop add-shipper loop-holds (λ c. omega arith) (λ c. omega arith) (λ c. omega arith) returns (λ c. omega arith)
+    (λ c. omega arith) (λ c. omega arith) loop-again returns-2)

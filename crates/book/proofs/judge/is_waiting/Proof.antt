@@ -10,9 +10,6 @@ use Rattle.book.proofs.judge.is_waiting.Tie as tie
 call : (c : tie.Start) → Called (c .args .t1) (c .args .shipper) (c .args .number)
 call c = called (c .args .t1) (c .args .shipper) (c .args .number) (c .pre)
 
-mul-line : tie.Need-mul-line
-mul-line c = omega arith
-
 element-copy-out-line : tie.Need-element-copy-out-line
 element-copy-out-line c = call c .known
 
@@ -30,4 +27,4 @@ returns c =
     place-tells (a .args .t1) (shaped (a .args .t1) _ (a .good .0)) (sound-lines _ (call a .sound)) (a .args .shipper) (call a .known) (a .args .number) _ (c .before .place .ensures)
 
 pub is-waiting-spec : {M : Type 1} → statement M
-is-waiting-spec = tie.close (tie.spec mul-line element-copy-out-line place-requires returns)
+is-waiting-spec = tie.close (tie.spec (λ c. omega arith) element-copy-out-line place-requires returns)

@@ -35,6 +35,4 @@ returns-4 c =
     sym (judged-fine tt (call-fine (a .args .book) (a .args .shipper) (a .args .number) (record { sound = sound (c .before .before); known = c .before .if2 .left; valid = c .if3 .left })))
 
 pub judge-call-spec : {M : Type 1} → statement M
-judge-call-spec =
-    tie.close
-    (tie.spec is-sound-requires returns returns-2 returns-3 returns-4)
+judge-call-spec = tie.close (tie.spec is-sound-requires returns returns-2 returns-3 returns-4)

@@ -38,9 +38,6 @@ returns c =
     let a = c .before .before in
     sym (request-23 (a .args .t1) (a .args .shipper) (a .args .number) (a .pre) (sym (c .before .is-waiting .ensures) ∙ c .if1 .taken))
 
-mul-count : tie.Need-mul-count
-mul-count c = omega arith
-
 element-copy-out-count : tie.Need-element-copy-out-count
 element-copy-out-count c = call (c .before .before) .known
 
@@ -83,13 +80,5 @@ returns-5 c =
 pub judge-place-spec : {M : Type 1} → statement M
 judge-place-spec =
     tie.close
-    (tie.spec
-    is-waiting-requires
-    returns
-    mul-count
-    element-copy-out-count
-    returns-2
-    returns-3
-    count-commons-used-requires
-    returns-4
+    (tie.spec is-waiting-requires returns (λ c. omega arith) element-copy-out-count returns-2 returns-3 count-commons-used-requires returns-4
     returns-5)

@@ -42,12 +42,6 @@ returns c = sym (take-20 (c .before .before .args .t1) (sym (c .before .is-sound
 find-next-requires : tie.Need-find-next-requires
 find-next-requires c κs = sound c
 
-cast-at : tie.Need-cast-at
-cast-at c = omega arith
-
-mul-line : tie.Need-mul-line
-mul-line c = omega arith
-
 element-copy-out-line : tie.Need-element-copy-out-line
 element-copy-out-line c = known c
 
@@ -57,9 +51,6 @@ returns-2 c =
     let f = c .before .before .before .before in
     let none : lineAt (f .before .before .before .args .t1) (f .find-next .result) .count ≤ 0 = omega arith in
     sym (take-27 (f .before .before .before .args .t1) (sound (f .before)) (some f (le-ltb _ _ none)))
-
-array-read-t18 : tie.Need-array-read-t18
-array-read-t18 c = omega arith
 
 returns-3 : tie.Need-returns-3
 unfolding lineAt
@@ -74,13 +65,5 @@ returns-3 c =
 pub judge-take-spec : {M : Type 1} → statement M
 judge-take-spec =
     tie.close
-    (tie.spec
-    is-sound-requires
-    returns
-    find-next-requires
-    cast-at
-    mul-line
-    element-copy-out-line
-    returns-2
-    array-read-t18
+    (tie.spec is-sound-requires returns find-next-requires (λ c. omega arith) (λ c. omega arith) element-copy-out-line returns-2 (λ c. omega arith)
     returns-3)

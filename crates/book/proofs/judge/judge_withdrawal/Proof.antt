@@ -17,9 +17,6 @@ enum-told c = search needs
 judge-waiting-requires : tie.Need-judge-waiting-requires
 judge-waiting-requires c κs = judged-was (callFault _ _ _) tt (sym (c .before .before .judge-call .ensures) ∙ ap toldChange (c .enum-told .given .1))
 
-enum-told-2 : tie.Need-enum-told-2
-enum-told-2 c = search needs
-
 returns : tie.Need-returns
 returns c = c .judge-waiting .ensures
 
@@ -30,6 +27,4 @@ returns-2 c =
     told ∙ sym (judged-first (callFault _ _ _) _ (sym (c .before .before .judge-call .ensures) ∙ told))
 
 pub judge-withdrawal-spec : {M : Type 1} → statement M
-judge-withdrawal-spec =
-    tie.close
-    (tie.spec judge-call-requires enum-told judge-waiting-requires enum-told-2 returns returns-2)
+judge-withdrawal-spec = tie.close (tie.spec judge-call-requires enum-told judge-waiting-requires (search needs) returns returns-2)

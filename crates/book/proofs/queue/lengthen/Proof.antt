@@ -5,17 +5,8 @@ use Rattle.book.proofs.Lines.{line-lengthened}
 use Rattle.book.proofs.queue.lengthen.Statement.{statement}
 use Rattle.book.proofs.queue.lengthen.Tie as tie
 
-mul-next : tie.Need-mul-next
-mul-next c = omega arith
-
-element-write-next : tie.Need-element-write-next
-element-write-next c = omega arith
-
-add-next : tie.Need-add-next
-add-next c = omega arith
-
 returns : tie.Need-returns
 returns c = line-lengthened (c .args .line) (c .args .number) (c .pre .0) (simp length-map at (c .good .0 .1 .1 .0 .1 .0 .1)) (c .pre .1)
 
 pub lengthen-spec : {M : Type 1} → statement M
-lengthen-spec = tie.close (tie.spec mul-next element-write-next add-next returns)
+lengthen-spec = tie.close (tie.spec (λ c. omega arith) (λ c. omega arith) (λ c. omega arith) returns)

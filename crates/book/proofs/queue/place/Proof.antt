@@ -26,24 +26,12 @@ there c = let a = c .before .before .before in waiting-count (a .args .line) (a 
 loop-holds : tie.Need-loop-holds Inv-loop μ-loop
 loop-holds c = (omega arith, refl)
 
-mul-if1 : tie.Need-mul-if1 Inv-loop μ-loop
-mul-if1 c = omega arith
-
-array-read-if1 : tie.Need-array-read-if1 Inv-loop μ-loop
-array-read-if1 c = omega arith
-
 returns : tie.Need-returns Inv-loop μ-loop
 unfolding waiting
 returns c =
     let h = there (c .before) in
     let same = getD-take _ (c .before .before .before .before .args .line .numbers) _ 0 (c .before .loop-test .taken) in
     place-here _ _ (c .before .before .loop .i) (omega arith) (c .if1 .taken ∙ sym same) ∙ sym (c .before .before .loop .inv .1)
-
-add-i : tie.Need-add-i Inv-loop μ-loop
-add-i c = omega arith
-
-loop-less : tie.Need-loop-less Inv-loop μ-loop
-loop-less c = omega arith
 
 loop-again : tie.Need-loop-again Inv-loop μ-loop
 loop-again c =
@@ -62,14 +50,4 @@ returns-2 c =
 pub place-spec : {M : Type 1} → statement M
 place-spec =
     tie.close
-    (tie.spec
-    Inv-loop
-    μ-loop
-    loop-holds
-    mul-if1
-    array-read-if1
-    returns
-    add-i
-    loop-less
-    loop-again
-    returns-2)
+    (tie.spec Inv-loop μ-loop loop-holds (λ c. omega arith) (λ c. omega arith) returns (λ c. omega arith) (λ c. omega arith) loop-again returns-2)

@@ -25,33 +25,6 @@ sixteen c = simp length-map at (c .good .0 .1 .1 .0 .1 .0 .1)
 loop-holds : tie.Need-loop-holds Inv-loop μ-loop
 loop-holds c = (omega arith, refl)
 
-mul-rest : tie.Need-mul-rest Inv-loop μ-loop
-mul-rest c = omega arith
-
-array-read-rest : tie.Need-array-read-rest Inv-loop μ-loop
-array-read-rest c = omega arith
-
-add-rest : tie.Need-add-rest Inv-loop μ-loop
-add-rest c = omega arith
-
-mul-rest-2 : tie.Need-mul-rest-2 Inv-loop μ-loop
-mul-rest-2 c = omega arith
-
-array-read-rest-2 : tie.Need-array-read-rest-2 Inv-loop μ-loop
-array-read-rest-2 c = omega arith
-
-mul-rest-3 : tie.Need-mul-rest-3 Inv-loop μ-loop
-mul-rest-3 c = omega arith
-
-array-write-rest : tie.Need-array-write-rest Inv-loop μ-loop
-array-write-rest c = omega arith
-
-add-i : tie.Need-add-i Inv-loop μ-loop
-add-i c = omega arith
-
-loop-less : tie.Need-loop-less Inv-loop μ-loop
-loop-less c = omega arith
-
 loop-again : tie.Need-loop-again Inv-loop μ-loop
 loop-again c =
     let a = c .before .before .before .before in
@@ -61,9 +34,6 @@ loop-again c =
     let value : c .if1 .rest ≡ getD (givenUp (a .args .at) (a .args .line .numbers)) i 0 =
     ⊎-elim (λ w. w .1 ∙ given-up-before (a .args .at) (a .args .line .numbers) i (omega arith) (w .0 .taken)) (λ w. w .1 ∙ given-up-behind (a .args .at) (a .args .line .numbers) i (omega arith) (w .0 .left)) (c .if1 .came) in
     (omega arith, ap (λ (xs : List ℕ). set xs i (c .if1 .rest)) (c .before .before .loop .inv .1) ∙ copied-next _ i _ (omega arith) (omega arith) value)
-
-sub-count : tie.Need-sub-count Inv-loop μ-loop
-sub-count c = omega arith
 
 returns : tie.Need-returns Inv-loop μ-loop
 returns c =
@@ -76,19 +46,5 @@ returns c =
 pub shorten-spec : {M : Type 1} → statement M
 shorten-spec =
     tie.close
-    (tie.spec
-    Inv-loop
-    μ-loop
-    loop-holds
-    mul-rest
-    array-read-rest
-    add-rest
-    mul-rest-2
-    array-read-rest-2
-    mul-rest-3
-    array-write-rest
-    add-i
-    loop-less
-    loop-again
-    sub-count
-    returns)
+    (tie.spec Inv-loop μ-loop loop-holds (λ c. omega arith) (λ c. omega arith) (λ c. omega arith) (λ c. omega arith) (λ c. omega arith)
+    (λ c. omega arith) (λ c. omega arith) (λ c. omega arith) (λ c. omega arith) loop-again (λ c. omega arith) returns)

@@ -6,30 +6,6 @@ use Rattle.book.specs.Sound.{areLinesSound, isSoundAt}
 use Rattle.book.proofs.sound.are_lines_sound.Statement.{statement}
 use Rattle.book.proofs.sound.are_lines_sound.Tie as tie
 
-element-copy-out-is-line-sound : tie.Need-element-copy-out-is-line-sound
-element-copy-out-is-line-sound c = omega arith
-
-is-line-sound-requires : tie.Need-is-line-sound-requires
-is-line-sound-requires c κs = omega arith
-
-element-copy-out-is-line-sound-2 : tie.Need-element-copy-out-is-line-sound-2
-element-copy-out-is-line-sound-2 c = omega arith
-
-is-line-sound-requires-2 : tie.Need-is-line-sound-requires-2
-is-line-sound-requires-2 c κs = omega arith
-
-element-copy-out-is-line-sound-3 : tie.Need-element-copy-out-is-line-sound-3
-element-copy-out-is-line-sound-3 c = omega arith
-
-is-line-sound-requires-3 : tie.Need-is-line-sound-requires-3
-is-line-sound-requires-3 c κs = omega arith
-
-element-copy-out-is-line-sound-4 : tie.Need-element-copy-out-is-line-sound-4
-element-copy-out-is-line-sound-4 c = omega arith
-
-is-line-sound-requires-4 : tie.Need-is-line-sound-requires-4
-is-line-sound-requires-4 c κs = omega arith
-
 returns : tie.Need-returns
 unfolding areLinesSound isSoundAt lineAt ceiling
 returns c =
@@ -42,13 +18,5 @@ returns c =
 pub are-lines-sound-spec : {M : Type 1} → statement M
 are-lines-sound-spec =
     tie.close
-    (tie.spec
-    element-copy-out-is-line-sound
-    is-line-sound-requires
-    element-copy-out-is-line-sound-2
-    is-line-sound-requires-2
-    element-copy-out-is-line-sound-3
-    is-line-sound-requires-3
-    element-copy-out-is-line-sound-4
-    is-line-sound-requires-4
-    returns)
+    (tie.spec (λ c. omega arith) (λ c κs. omega arith) (λ c. omega arith) (λ c κs. omega arith) (λ c. omega arith) (λ c κs. omega arith)
+    (λ c. omega arith) (λ c κs. omega arith) returns)

@@ -28,22 +28,10 @@ here c = getD-take _ (c .before .before .before .args .line .numbers) _ 0 (c .lo
 loop-holds : tie.Need-loop-holds Inv-loop μ-loop
 loop-holds c = (omega arith, refl)
 
-mul-number : tie.Need-mul-number Inv-loop μ-loop
-mul-number c = omega arith
-
-array-read-number : tie.Need-array-read-number Inv-loop μ-loop
-array-read-number c = omega arith
-
 returns : tie.Need-returns Inv-loop μ-loop
 returns c =
     let l = many (c .before .before .before .before) in
     sym (c .before .before .loop .inv .1 ∙ proper-zero _ (c .before .before .loop .i) (omega arith) (here (c .before) ∙ c .if1 .taken))
-
-add-place : tie.Need-add-place Inv-loop μ-loop
-add-place c = omega arith
-
-place-requires : tie.Need-place-requires Inv-loop μ-loop
-place-requires c κs = omega arith
 
 returns-2 : tie.Need-returns-2 Inv-loop μ-loop
 returns-2 c =
@@ -53,12 +41,6 @@ returns-2 c =
     let i = turn .before .loop .i in
     let again = found-behind (getD (start .args .line .numbers) i 0) (waiting (start .args .line)) (i + 1) _ (c .before .place .ensures) (omega arith) in
     sym (turn .before .loop .inv .1 ∙ proper-twice _ i (omega arith) (λ e. c .before .before .if1 .left (sym (here turn) ∙ e)) (ap (λ (x : ℕ). isIn x (drop (i + 1) (waiting (start .args .line)))) (here turn) ∙ again))
-
-add-i : tie.Need-add-i Inv-loop μ-loop
-add-i c = omega arith
-
-loop-less : tie.Need-loop-less Inv-loop μ-loop
-loop-less c = omega arith
 
 loop-again : tie.Need-loop-again Inv-loop μ-loop
 loop-again c =
@@ -77,17 +59,5 @@ returns-3 c =
 pub are-proper-spec : {M : Type 1} → statement M
 are-proper-spec =
     tie.close
-    (tie.spec
-    Inv-loop
-    μ-loop
-    loop-holds
-    mul-number
-    array-read-number
-    returns
-    add-place
-    place-requires
-    returns-2
-    add-i
-    loop-less
-    loop-again
-    returns-3)
+    (tie.spec Inv-loop μ-loop loop-holds (λ c. omega arith) (λ c. omega arith) returns (λ c. omega arith) (λ c κs. omega arith) returns-2
+    (λ c. omega arith) (λ c. omega arith) loop-again returns-3)

@@ -8,26 +8,14 @@ use Rattle.book.proofs.Shape.{Shaped, shaped}
 use Rattle.book.proofs.sound.count_commons_used.Statement.{statement}
 use Rattle.book.proofs.sound.count_commons_used.Tie as tie
 
-element-copy-out-count-beyond : tie.Need-element-copy-out-count-beyond
-element-copy-out-count-beyond c = omega arith
-
 count-beyond-requires : tie.Need-count-beyond-requires
 count-beyond-requires c κs = tt
-
-element-copy-out-count-beyond-2 : tie.Need-element-copy-out-count-beyond-2
-element-copy-out-count-beyond-2 c = omega arith
 
 count-beyond-requires-2 : tie.Need-count-beyond-requires-2
 count-beyond-requires-2 c κs = tt
 
-element-copy-out-count-beyond-3 : tie.Need-element-copy-out-count-beyond-3
-element-copy-out-count-beyond-3 c = omega arith
-
 count-beyond-requires-3 : tie.Need-count-beyond-requires-3
 count-beyond-requires-3 c κs = tt
-
-element-copy-out-count-beyond-4 : tie.Need-element-copy-out-count-beyond-4
-element-copy-out-count-beyond-4 c = omega arith
 
 count-beyond-requires-4 : tie.Need-count-beyond-requires-4
 count-beyond-requires-4 c κs = tt
@@ -70,16 +58,5 @@ returns c =
 pub count-commons-used-spec : {M : Type 1} → statement M
 count-commons-used-spec =
     tie.close
-    (tie.spec
-    element-copy-out-count-beyond
-    count-beyond-requires
-    element-copy-out-count-beyond-2
-    count-beyond-requires-2
-    element-copy-out-count-beyond-3
-    count-beyond-requires-3
-    element-copy-out-count-beyond-4
-    count-beyond-requires-4
-    add-result
-    add-result-2
-    add-result-3
-    returns)
+    (tie.spec (λ c. omega arith) count-beyond-requires (λ c. omega arith) count-beyond-requires-2 (λ c. omega arith) count-beyond-requires-3
+    (λ c. omega arith) count-beyond-requires-4 add-result add-result-2 add-result-3 returns)

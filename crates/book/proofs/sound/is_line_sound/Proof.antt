@@ -10,12 +10,6 @@ returns : tie.Need-returns
 unfolding isLineSound
 returns c = rw (lt-leb _ _ (c .if1 .taken))
 
-are-proper-requires : tie.Need-are-proper-requires
-are-proper-requires c κs = omega arith
-
-are-unused-zero-requires : tie.Need-are-unused-zero-requires
-are-unused-zero-requires c κs = omega arith
-
 returns-2 : tie.Need-returns-2
 unfolding isLineSound
 returns-2 c =
@@ -29,5 +23,4 @@ returns-3 c =
     rw (le-leb _ _ (c .before .before .if1 .left), improper)
 
 pub is-line-sound-spec : {M : Type 1} → statement M
-is-line-sound-spec =
-    tie.close (tie.spec returns are-proper-requires are-unused-zero-requires returns-2 returns-3)
+is-line-sound-spec = tie.close (tie.spec returns (λ c κs. omega arith) (λ c κs. omega arith) returns-2 returns-3)

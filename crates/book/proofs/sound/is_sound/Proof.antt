@@ -35,6 +35,4 @@ unfolding isSound
 returns-3 c = rw (sym (c .before .are-lines-sound .ensures) ∙ c .if1 .left)
 
 pub is-sound-spec : {M : Type 1} → statement M
-is-sound-spec =
-    tie.close
-    (tie.spec are-lines-sound-requires count-commons-used-requires returns returns-2 returns-3)
+is-sound-spec = tie.close (tie.spec are-lines-sound-requires count-commons-used-requires returns returns-2 returns-3)

@@ -35,9 +35,6 @@ add-above c = let s = c .before .before in sum-fits 10000 (back s) (scale s .is)
 cast-above : tie.Need-cast-above
 cast-above c = let s = c .before .before in cast-fits 10000 (back s) (scale s .is) (high s)
 
-cast-result : tie.Need-cast-result
-cast-result c = search needs
-
 add-result : tie.Need-add-result
 add-result c = omega (arith, above-is (c .before .before .before), facts (c .before .before .before), scale (c .before .before .before))
 
@@ -49,4 +46,4 @@ unfolding adjusted
 returns c = let s = c .before .before .before in omega (arith, above-is s, scale s .sum)
 
 pub adjust-spec : {M : Type 1} → statement M
-adjust-spec = tie.close (tie.spec add-above cast-above cast-result add-result sub-result returns)
+adjust-spec = tie.close (tie.spec add-above cast-above (search needs) add-result sub-result returns)

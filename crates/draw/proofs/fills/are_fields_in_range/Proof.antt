@@ -14,39 +14,6 @@ use Rattle.ranges.proofs.Counted.{passed-on}
 use Rattle.draw.proofs.fills.are_fields_in_range.Statement.{statement}
 use Rattle.draw.proofs.fills.are_fields_in_range.Tie as tie
 
-cast-is-within : tie.Need-cast-is-within
-cast-is-within c = search needs
-
-is-within-requires : tie.Need-is-within-requires
-is-within-requires c κs = search needs
-
-is-within-signed-requires : tie.Need-is-within-signed-requires
-is-within-signed-requires c κs = search needs
-
-is-within-signed-requires-2 : tie.Need-is-within-signed-requires-2
-is-within-signed-requires-2 c κs = search needs
-
-is-within-signed-requires-3 : tie.Need-is-within-signed-requires-3
-is-within-signed-requires-3 c κs = search needs
-
-cast-is-within-2 : tie.Need-cast-is-within-2
-cast-is-within-2 c = search needs
-
-is-within-requires-2 : tie.Need-is-within-requires-2
-is-within-requires-2 c κs = search needs
-
-cast-is-within-3 : tie.Need-cast-is-within-3
-cast-is-within-3 c = search needs
-
-is-within-requires-3 : tie.Need-is-within-requires-3
-is-within-requires-3 c κs = search needs
-
-cast-is-within-4 : tie.Need-cast-is-within-4
-cast-is-within-4 c = search needs
-
-is-within-requires-4 : tie.Need-is-within-requires-4
-is-within-requires-4 c κs = search needs
-
 -- the machine's signed test is the range's, since the field's number fits
 judged : (lo hi z : ℤ) {r : Bool} → mag z < 32768 → r ≡ withinSigned lo hi (toZ w16 (ofZ w16 z)) → r ≡ withinSigned lo hi z
 judged lo hi z fits is = is ∙ ap (withinSigned lo hi) (passed-on z fits)
@@ -72,16 +39,5 @@ returns c =
 pub are-fields-in-range-spec : {M : Type 1} → statement M
 are-fields-in-range-spec =
     tie.close
-    (tie.spec
-    cast-is-within
-    is-within-requires
-    is-within-signed-requires
-    is-within-signed-requires-2
-    is-within-signed-requires-3
-    cast-is-within-2
-    is-within-requires-2
-    cast-is-within-3
-    is-within-requires-3
-    cast-is-within-4
-    is-within-requires-4
-    returns)
+    (tie.spec (search needs) (search needs) (search needs) (search needs) (search needs) (search needs) (search needs) (search needs) (search needs)
+    (search needs) (search needs) returns)

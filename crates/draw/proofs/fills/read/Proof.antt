@@ -11,54 +11,6 @@ use Rattle.ranges.proofs.Counted.{passed-on}
 use Rattle.draw.proofs.fills.read.Statement.{statement}
 use Rattle.draw.proofs.fills.read.Tie as tie
 
-mul-at : tie.Need-mul-at
-mul-at c = search needs
-
-long-at-requires : tie.Need-long-at-requires
-long-at-requires c κs = search needs
-
-add-signed-at : tie.Need-add-signed-at
-add-signed-at c = search needs
-
-signed-at-requires : tie.Need-signed-at-requires
-signed-at-requires c κs = search needs
-
-add-signed-at-2 : tie.Need-add-signed-at-2
-add-signed-at-2 c = search needs
-
-signed-at-requires-2 : tie.Need-signed-at-requires-2
-signed-at-requires-2 c κs = search needs
-
-add-signed-at-3 : tie.Need-add-signed-at-3
-add-signed-at-3 c = search needs
-
-signed-at-requires-3 : tie.Need-signed-at-requires-3
-signed-at-requires-3 c κs = search needs
-
-add-word-at : tie.Need-add-word-at
-add-word-at c = search needs
-
-word-at-requires : tie.Need-word-at-requires
-word-at-requires c κs = search needs
-
-add-long-at : tie.Need-add-long-at
-add-long-at c = search needs
-
-long-at-requires-2 : tie.Need-long-at-requires-2
-long-at-requires-2 c κs = search needs
-
-add-byte-at : tie.Need-add-byte-at
-add-byte-at c = search needs
-
-byte-at-requires : tie.Need-byte-at-requires
-byte-at-requires c κs = search needs
-
-add-word-at-2 : tie.Need-add-word-at-2
-add-word-at-2 c = search needs
-
-word-at-requires-2 : tie.Need-word-at-requires-2
-word-at-requires-2 c κs = search needs
-
 -- a signed number that is passed on comes back
 same : {z r : ℤ} → mag r < 32768 → r ≡ z → toZ w16 (ofZ w16 r) ≡ z
 same {z} {r} fits is = passed-on r fits ∙ is
@@ -86,21 +38,5 @@ returns c =
 pub read-spec : {M : Type 1} → statement M
 read-spec =
     tie.close
-    (tie.spec
-    mul-at
-    long-at-requires
-    add-signed-at
-    signed-at-requires
-    add-signed-at-2
-    signed-at-requires-2
-    add-signed-at-3
-    signed-at-requires-3
-    add-word-at
-    word-at-requires
-    add-long-at
-    long-at-requires-2
-    add-byte-at
-    byte-at-requires
-    add-word-at-2
-    word-at-requires-2
-    returns)
+    (tie.spec (search needs) (search needs) (search needs) (search needs) (search needs) (search needs) (search needs) (search needs) (search needs)
+    (search needs) (search needs) (search needs) (search needs) (search needs) (search needs) (search needs) returns)

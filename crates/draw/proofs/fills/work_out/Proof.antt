@@ -12,47 +12,11 @@ use Rattle.draw.proofs.Magnitudes.{cts-at, expanded-most, ccts-value, d
 use Rattle.draw.proofs.fills.work_out.Statement.{statement}
 use Rattle.draw.proofs.fills.work_out.Tie as tie
 
-adjust-requires : tie.Need-adjust-requires
-adjust-requires c κs = search needs
-
-cts-requires : tie.Need-cts-requires
-cts-requires c κs = search needs
-
-value-or-zero-requires : tie.Need-value-or-zero-requires
-value-or-zero-requires c κs = search needs
-
-cast-measure : tie.Need-cast-measure
-cast-measure c = search needs
-
-cts-requires-2 : tie.Need-cts-requires-2
-cts-requires-2 c κs = search needs
-
-value-or-zero-requires-2 : tie.Need-value-or-zero-requires-2
-value-or-zero-requires-2 c κs = search needs
-
-cast-prover : tie.Need-cast-prover
-cast-prover c = search needs
-
-rounded-ratio-requires : tie.Need-rounded-ratio-requires
-rounded-ratio-requires c κs = search needs
-
-value-or-zero-requires-3 : tie.Need-value-or-zero-requires-3
-value-or-zero-requires-3 c κs = search needs
-
-cast-expanded : tie.Need-cast-expanded
-cast-expanded c = search needs
-
 expanded-fits : (c : tie.Start) {x : ℕ} → x ≡ adjusted (c .args .fill) → x * c .args .fill .ctdw ≤ 102010200000000
 expanded-fits c is = let a = c .args in rw is (expanded-most (a .metal) (a .fill) (c .pre .0) (c .pre .1))
 
 mul-expanded : tie.Need-mul-expanded
 mul-expanded c = let s = c .before .before .before .before .before .before .before .before .before in omega (arith, s .adjust .ensures, expanded-fits (s .before) (s .adjust .ensures))
-
-rounded-ratio-requires-2 : tie.Need-rounded-ratio-requires-2
-rounded-ratio-requires-2 c κs = search needs
-
-value-or-zero-requires-4 : tie.Need-value-or-zero-requires-4
-value-or-zero-requires-4 c κs = search needs
 
 returns : tie.Need-returns
 unfolding figuresOf measureCts proverCts metalOk
@@ -77,18 +41,6 @@ returns c =
 pub work-out-spec : {M : Type 1} → statement M
 work-out-spec =
     tie.close
-    (tie.spec
-    adjust-requires
-    cts-requires
-    value-or-zero-requires
-    cast-measure
-    cts-requires-2
-    value-or-zero-requires-2
-    cast-prover
-    rounded-ratio-requires
-    value-or-zero-requires-3
-    cast-expanded
-    mul-expanded
-    rounded-ratio-requires-2
-    value-or-zero-requires-4
+    (tie.spec (λ c κs. search needs) (λ c κs. search needs) (λ c κs. search needs) (λ c. search needs) (λ c κs. search needs) (λ c κs. search needs)
+    (λ c. search needs) (λ c κs. search needs) (λ c κs. search needs) (λ c. search needs) mul-expanded (λ c κs. search needs) (λ c κs. search needs)
     returns)

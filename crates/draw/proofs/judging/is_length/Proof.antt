@@ -9,12 +9,9 @@ use Rattle.draw.specs.Passes.{lengthOk, fillsIn}
 use Rattle.draw.proofs.judging.is_length.Statement.{statement}
 use Rattle.draw.proofs.judging.is_length.Tie as tie
 
-is-within-requires : tie.Need-is-within-requires
-is-within-requires c κs = search needs
-
 returns : tie.Need-returns
 unfolding lengthOk fillsIn fillsOk
 returns c = λ i. eqb (length (c .before .before .args .s .now) % 32) 0 && c .is-within .ensures i
 
 pub is-length-spec : {M : Type 1} → statement M
-is-length-spec = tie.close (tie.spec is-within-requires returns)
+is-length-spec = tie.close (tie.spec (search needs) returns)

@@ -37,21 +37,9 @@ after-records c is =
     let t = j .before in
     orElse-next _ (demand-holds 1 (whole (t .before .before .before .before))) ∙ orElse-next _ (demand-holds 3 (settings t)) ∙ orElse-next _ (sym (j .judge-fills .ensures) ∙ ap faultOf (e .enum-told .given .1)) ∙ is
 
-is-length-requires : tie.Need-is-length-requires
-is-length-requires c κs = search needs
-
-is-metal-requires : tie.Need-is-metal-requires
-is-metal-requires c κs = search needs
-
-is-pipe-requires : tie.Need-is-pipe-requires
-is-pipe-requires c κs = search needs
-
 judge-fills-requires : tie.Need-judge-fills-requires
 unfolding fillsIn
 judge-fills-requires c κs = length-few (c .before .before .before .before .before .before .before .args .s .now) (whole (c .before .before .before .before))
-
-enum-known-verdict : tie.Need-enum-known-verdict
-enum-known-verdict c = search needs
 
 returns : tie.Need-returns
 unfolding drawFault fillsIn
@@ -69,12 +57,6 @@ count-passes-requires c κs =
     let w = c .before .before .before .before .before .before .before in
     let s = w .before .before .before .args .s .now in
     (omega (arith, length-some s (whole w)), length-few s (whole w))
-
-cast-is-within : tie.Need-cast-is-within
-cast-is-within c = search needs
-
-is-within-requires : tie.Need-is-within-requires
-is-within-requires c κs = search needs
 
 returns-2 : tie.Need-returns-2
 unfolding drawFault fillsIn
@@ -97,18 +79,5 @@ returns-5 c = sym (orElse-first _ (demand-fails 1 (sym (c .before .is-length .en
 pub judge-draw-spec : {M : Type 1} → statement M
 judge-draw-spec =
     tie.close
-    (tie.spec
-    is-length-requires
-    is-metal-requires
-    is-pipe-requires
-    judge-fills-requires
-    enum-known-verdict
-    returns
-    enum-told
-    count-passes-requires
-    cast-is-within
-    is-within-requires
-    returns-2
-    returns-3
-    returns-4
-    returns-5)
+    (tie.spec (search needs) (search needs) (search needs) judge-fills-requires (search needs) returns enum-told count-passes-requires (search needs)
+    (search needs) returns-2 returns-3 returns-4 returns-5)

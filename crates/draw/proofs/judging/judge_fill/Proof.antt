@@ -6,14 +6,8 @@ use Rattle.draw.specs.Answers.{faultOf, fillFault}
 use Rattle.draw.proofs.judging.judge_fill.Statement.{statement}
 use Rattle.draw.proofs.judging.judge_fill.Tie as tie
 
-judge-record-requires : tie.Need-judge-record-requires
-judge-record-requires c κs = search needs
-
 enum-told : tie.Need-enum-told
 enum-told c = search needs
-
-keeps-pass-rule-requires : tie.Need-keeps-pass-rule-requires
-keeps-pass-rule-requires c κs = search needs
 
 returns : tie.Need-returns
 unfolding fillFault
@@ -21,15 +15,6 @@ returns c =
     let k = c .before in
     let t = k .before in
     sym (orElse-next _ (sym (t .before .before .judge-record .ensures) ∙ ap faultOf (t .enum-told .given .1)) ∙ demandAt-holds 6 _ (sym (k .keeps-pass-rule .ensures) ∙ c .if1 .taken))
-
-add-t7 : tie.Need-add-t7
-add-t7 c = search needs
-
-cast-t8 : tie.Need-cast-t8
-cast-t8 c = search needs
-
-enum-known-verdict : tie.Need-enum-known-verdict
-enum-known-verdict c = search needs
 
 returns-2 : tie.Need-returns-2
 unfolding fillFault
@@ -45,13 +30,4 @@ returns-3 c = let v = c .before in sym (orElse-first _ (sym (v .before .before .
 pub judge-fill-spec : {M : Type 1} → statement M
 judge-fill-spec =
     tie.close
-    (tie.spec
-    judge-record-requires
-    enum-told
-    keeps-pass-rule-requires
-    returns
-    add-t7
-    cast-t8
-    enum-known-verdict
-    returns-2
-    returns-3)
+    (tie.spec (search needs) enum-told (search needs) returns (search needs) (search needs) (search needs) returns-2 returns-3)

@@ -10,21 +10,6 @@ use Rattle.draw.proofs.judging.judge_record.Tie as tie
 judges : (c : tie.After-are-fields-in-range) → c .are-fields-in-range .result ≡ fieldsOk (fillAt (c .before .before .before .args .s .now) (c .before .before .before .args .i))
 judges c = c .are-fields-in-range .ensures ∙ ap fieldsOk (c .before .read .ensures)
 
-add-at : tie.Need-add-at
-add-at c = search needs
-
-cast-at : tie.Need-cast-at
-cast-at c = search needs
-
-read-requires : tie.Need-read-requires
-read-requires c κs = search needs
-
-are-fields-in-range-requires : tie.Need-are-fields-in-range-requires
-are-fields-in-range-requires c κs = search needs
-
-are-unnamed-zero-requires : tie.Need-are-unnamed-zero-requires
-are-unnamed-zero-requires c κs = search needs
-
 returns : tie.Need-returns
 unfolding recordFault
 returns c =
@@ -44,14 +29,4 @@ unfolding recordFault
 returns-3 c = sym (orElse-first _ (demandAt-fails 5 _ (sym (judges (c .before)) ∙ c .if1 .left)))
 
 pub judge-record-spec : {M : Type 1} → statement M
-judge-record-spec =
-    tie.close
-    (tie.spec
-    add-at
-    cast-at
-    read-requires
-    are-fields-in-range-requires
-    are-unnamed-zero-requires
-    returns
-    returns-2
-    returns-3)
+judge-record-spec = tie.close (tie.spec (search needs) (search needs) (search needs) (search needs) (search needs) returns returns-2 returns-3)

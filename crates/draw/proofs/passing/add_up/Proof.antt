@@ -32,12 +32,6 @@ add-to-pass-requires c κs =
 add-sum : tie.Need-add-sum Inv-loop μ-loop
 add-sum c = omega (arith, c .add-to-pass .ensures .1, few (c .before .before .before .before), c .before .before .loop .inv)
 
-add-i : tie.Need-add-i Inv-loop μ-loop
-add-i c = search needs
-
-loop-less : tie.Need-loop-less Inv-loop μ-loop
-loop-less c = omega arith
-
 loop-again : tie.Need-loop-again Inv-loop μ-loop
 loop-again c =
     let l = c .before .before in
@@ -54,15 +48,4 @@ returns c =
     (l .loop .inv .0 ∙ ap (sumTo (drawnFor (a .metal) (a .s .now) (a .pass))) all, omega (arith, l .loop .inv, few s))
 
 pub add-up-spec : {M : Type 1} → statement M
-add-up-spec =
-    tie.close
-    (tie.spec
-    Inv-loop
-    μ-loop
-    loop-holds
-    add-to-pass-requires
-    add-sum
-    add-i
-    loop-less
-    loop-again
-    returns)
+add-up-spec = tie.close (tie.spec Inv-loop μ-loop loop-holds add-to-pass-requires add-sum (search needs) (λ c. omega arith) loop-again returns)

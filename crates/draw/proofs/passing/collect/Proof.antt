@@ -18,9 +18,6 @@ loop-holds : tie.Need-loop-holds Inv-loop μ-loop
 unfolding volumesTo zerosAfter
 loop-holds c = (omega arith, refl)
 
-add-find-volume : tie.Need-add-find-volume Inv-loop μ-loop
-add-find-volume c = search needs
-
 cast-find-volume : tie.Need-cast-find-volume Inv-loop μ-loop
 cast-find-volume c = omega (arith, c .before .before .before .pre .1)
 
@@ -32,12 +29,6 @@ mul-volumes c = omega (arith, c .before .before .before .before .pre .1)
 
 array-write-volumes : tie.Need-array-write-volumes Inv-loop μ-loop
 array-write-volumes c = omega (arith, c .before .before .before .before .pre .1)
-
-add-i : tie.Need-add-i Inv-loop μ-loop
-add-i c = search needs
-
-loop-less : tie.Need-loop-less Inv-loop μ-loop
-loop-less c = omega arith
 
 loop-again : tie.Need-loop-again Inv-loop μ-loop
 loop-again c =
@@ -55,16 +46,5 @@ returns c =
 pub collect-spec : {M : Type 1} → statement M
 collect-spec =
     tie.close
-    (tie.spec
-    Inv-loop
-    μ-loop
-    loop-holds
-    add-find-volume
-    cast-find-volume
-    find-volume-requires
-    mul-volumes
-    array-write-volumes
-    add-i
-    loop-less
-    loop-again
-    returns)
+    (tie.spec Inv-loop μ-loop loop-holds (search needs) cast-find-volume find-volume-requires mul-volumes array-write-volumes (search needs)
+    (λ c. omega arith) loop-again returns)

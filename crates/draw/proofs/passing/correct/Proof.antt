@@ -23,35 +23,11 @@ cpl-is c =
     let s = c .before .before .before .before in
     c .value-or-zero2 .ensures ∙ cpl-value (c .before .cpl .result) Six 320 (s .args .pressure) (c .before .cpl .ensures) (s .pre .1) refl
 
-cps-requires : tie.Need-cps-requires
-cps-requires c κs = search needs
-
-value-or-zero-requires : tie.Need-value-or-zero-requires
-value-or-zero-requires c κs = search needs
-
-cast-cps : tie.Need-cast-cps
-cast-cps c = search needs
-
-cpl-requires : tie.Need-cpl-requires
-cpl-requires c κs = search needs
-
-value-or-zero-requires-2 : tie.Need-value-or-zero-requires-2
-value-or-zero-requires-2 c κs = search needs
-
-cast-cpl : tie.Need-cast-cpl
-cast-cpl c = search needs
-
 mul-rounded-ratio : tie.Need-mul-rounded-ratio
 mul-rounded-ratio c =
     let v = c .before .before in
     let s = v .before .before in
     omega (arith, product-fits (s .args .pipe) (s .args .pressure) (s .pre .0) (s .pre .1) (cps-is v) (cpl-is c))
-
-rounded-ratio-requires : tie.Need-rounded-ratio-requires
-rounded-ratio-requires c κs = search needs
-
-value-or-zero-requires-3 : tie.Need-value-or-zero-requires-3
-value-or-zero-requires-3 c κs = search needs
 
 returns : tie.Need-returns
 returns c =
@@ -64,14 +40,5 @@ returns c =
 pub correct-spec : {M : Type 1} → statement M
 correct-spec =
     tie.close
-    (tie.spec
-    cps-requires
-    value-or-zero-requires
-    cast-cps
-    cpl-requires
-    value-or-zero-requires-2
-    cast-cpl
-    mul-rounded-ratio
-    rounded-ratio-requires
-    value-or-zero-requires-3
-    returns)
+    (tie.spec (search needs) (search needs) (search needs) (search needs) (search needs) (search needs) mul-rounded-ratio (search needs)
+    (search needs) returns)

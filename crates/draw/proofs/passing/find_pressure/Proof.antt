@@ -38,12 +38,6 @@ returns c =
     let h : l .loop .i < length (a .s .now) / 32 = omega arith in
     (ap (λ (f : FillRecord). f .pressure) (r .read .ensures) ∙ sym (ap (pressureAt (a .s .now)) (place-hit (isOf (a .s .now) (a .pass)) (length (a .s .now) / 32) (l .loop .i) h (of-pass (a .s .now) (l .loop .i) (r .read .ensures) (c .if1 .taken)) (l .loop .inv))), ap (λ (f : FillRecord). pressureOk (f .pressure)) (r .read .ensures) ∙ fields (fillAt (a .s .now) (l .loop .i)) (s .pre .1 (l .loop .i) h) .pressure)
 
-add-i : tie.Need-add-i Inv-loop μ-loop
-add-i c = search needs
-
-loop-less : tie.Need-loop-less Inv-loop μ-loop
-loop-less c = omega arith
-
 loop-again : tie.Need-loop-again Inv-loop μ-loop
 loop-again c =
     let r = c .before .before in
@@ -59,15 +53,4 @@ returns-2 c =
     (sym (ap (pressureAt (a .s .now)) (done places (placeIf (isOf (a .s .now) (a .pass))) (length (a .s .now) / 32) (l .loop .i) (omega arith) (l .loop .inv))), refl)
 
 pub find-pressure-spec : {M : Type 1} → statement M
-find-pressure-spec =
-    tie.close
-    (tie.spec
-    Inv-loop
-    μ-loop
-    loop-holds
-    read-requires
-    returns
-    add-i
-    loop-less
-    loop-again
-    returns-2)
+find-pressure-spec = tie.close (tie.spec Inv-loop μ-loop loop-holds read-requires returns (search needs) (λ c. omega arith) loop-again returns-2)

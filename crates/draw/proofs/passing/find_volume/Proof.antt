@@ -26,5 +26,4 @@ returns c =
     c .correct .ensures ∙ (λ i. correctedVolume (a .prover .pipe) (p .find-pressure .ensures .0 i) (u .add-up .ensures .0 i))
 
 pub find-volume-spec : {M : Type 1} → statement M
-find-volume-spec =
-    tie.close (tie.spec find-pressure-requires add-up-requires correct-requires returns)
+find-volume-spec = tie.close (tie.spec find-pressure-requires add-up-requires correct-requires returns)

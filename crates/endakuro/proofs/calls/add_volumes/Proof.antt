@@ -12,45 +12,8 @@ Inv-loop count out₀ from volumes at₀ i₀ out at i = (i ≤ 20) × (length o
 abbrev μ-loop : tie.MeasureT-loop
 μ-loop count out₀ from volumes at₀ i₀ out at i = 20 - i
 
-loop-holds : tie.Need-loop-holds Inv-loop μ-loop
-loop-holds c = search needs
-
-mul-add-wanted : tie.Need-mul-add-wanted Inv-loop μ-loop
-mul-add-wanted c = search needs
-
-array-read-add-wanted : tie.Need-array-read-add-wanted Inv-loop μ-loop
-array-read-add-wanted c = search needs
-
-add-wanted-requires : tie.Need-add-wanted-requires Inv-loop μ-loop
-add-wanted-requires c κs = search needs
-
-add-i : tie.Need-add-i Inv-loop μ-loop
-add-i c = search needs
-
-loop-less : tie.Need-loop-less Inv-loop μ-loop
-loop-less c = search needs
-
-loop-again : tie.Need-loop-again Inv-loop μ-loop
-loop-again c = search needs
-
-same-length : tie.Need-same-length Inv-loop μ-loop
-same-length c = search needs
-
-returns : tie.Need-returns Inv-loop μ-loop
-returns c = search needs
-
 pub add-volumes-spec : {M : Type 1} → statement M
 add-volumes-spec =
     tie.close
-    (tie.spec
-    Inv-loop
-    μ-loop
-    loop-holds
-    mul-add-wanted
-    array-read-add-wanted
-    add-wanted-requires
-    add-i
-    loop-less
-    loop-again
-    same-length
-    returns)
+    (tie.spec Inv-loop μ-loop (search needs) (search needs) (search needs) (search needs) (search needs) (search needs) (search needs) (search needs)
+    (search needs))

@@ -9,15 +9,9 @@ use borrow.Author.Needs.{needs}
 use Rattle.endakuro.proofs.operands.single_of.Statement.{statement}
 use Rattle.endakuro.proofs.operands.single_of.Tie as tie
 
-returns : tie.Need-returns
-returns c = search needs
-
 float-from-bits-result : tie.Need-float-from-bits-result
 float-from-bits-result c =
     subst⁻¹ (λ (b : Bool). T (not b)) (nanBits-above binary32 (c .before .args .bits) ∙ le-ltb _ _ (c .if1 .left)) tt
 
-returns-2 : tie.Need-returns-2
-returns-2 c = search needs
-
 pub single-of-spec : {M : Type 1} → statement M
-single-of-spec = tie.close (tie.spec returns float-from-bits-result returns-2)
+single-of-spec = tie.close (tie.spec (search needs) float-from-bits-result (search needs))

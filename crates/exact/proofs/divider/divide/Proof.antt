@@ -1,6 +1,6 @@
 -- `exact::divider::divide` meets its contract. The loop's invariant is `Going`: the dividend, doubled at each turn, is the quotient so far
 -- times the divisor and the rest so far, above the bits that are still to be taken.
-use Prim.Native.Nat.{ℕ, _+_, _*_, _-_, _^_}
+use Prim.Native.Nat.{_+_, _*_, _-_, _^_}
 use native.Mathlib.Omega.{arith}
 use Rattle.exact.proofs.Bits.{Going, start, quotient-room, turn, finish}
 use Rattle.exact.proofs.divider.divide.Statement.{statement}
@@ -24,15 +24,6 @@ mul-quotient c = omega (arith, quotient-room (c .before .before .loop .inv) (c .
 add-quotient : tie.Need-add-quotient Inv-loop μ-loop
 add-quotient c = omega (arith, quotient-room (c .before .before .before .loop .inv) (c .before .before .loop-test .taken))
 
-mul-bits : tie.Need-mul-bits Inv-loop μ-loop
-mul-bits c = omega arith
-
-add-i : tie.Need-add-i Inv-loop μ-loop
-add-i c = omega arith
-
-loop-less : tie.Need-loop-less Inv-loop μ-loop
-loop-less c = omega arith
-
 loop-again : tie.Need-loop-again Inv-loop μ-loop
 loop-again c =
     let e = c .before .take-bit .ensures in
@@ -44,15 +35,5 @@ returns c = (finish (c .before .loop .inv) (c .loop-test .left), c .before .loop
 pub divide-spec : {M : Type 1} → statement M
 divide-spec =
     tie.close
-    (tie.spec
-    Inv-loop
-    μ-loop
-    loop-holds
-    take-bit-requires
-    mul-quotient
-    add-quotient
-    mul-bits
-    add-i
-    loop-less
-    loop-again
-    returns)
+    (tie.spec Inv-loop μ-loop loop-holds take-bit-requires mul-quotient add-quotient (λ c. omega arith) (λ c. omega arith) (λ c. omega arith)
+    loop-again returns)

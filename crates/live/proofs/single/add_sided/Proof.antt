@@ -8,12 +8,6 @@ use Rattle.live.proofs.Sides.{add-above, add-reaching, add-passing}
 use Rattle.live.proofs.single.add_sided.Statement.{statement}
 use Rattle.live.proofs.single.add_sided.Tie as tie
 
-sub-t9 : tie.Need-sub-t9
-sub-t9 c = search needs
-
-add-t10 : tie.Need-add-t10
-add-t10 c = search needs
-
 returns : tie.Need-returns
 returns c =
     let v = c .before .before .args in
@@ -30,4 +24,4 @@ returns-3 c =
     sym (ap (λ (s : Bool). pos (v .a) +ℤ sided s (v .b)) (c .if1 .left) ∙ add-above (v .a) (v .b))
 
 pub add-sided-spec : {M : Type 1} → statement M
-add-sided-spec = tie.close (tie.spec sub-t9 add-t10 returns returns-2 returns-3)
+add-sided-spec = tie.close (tie.spec (search needs) (search needs) returns returns-2 returns-3)

@@ -51,12 +51,6 @@ returns-3 c =
     ∙ whole-outside (v .low) (v .high) _
     (whole-far (v .low) (v .high) (v .offset) (v .times) b (c .before .before .before .pre .1) (fits .high) (fits .offset .fits) (c .before .before .before .pre .0) (c .if3 .taken) (under-ones b (c .before .if2 .left))))
 
-round-scaled-requires : tie.Need-round-scaled-requires
-round-scaled-requires c κs = search needs
-
-judge-whole-requires : tie.Need-judge-whole-requires
-judge-whole-requires c κs = search needs
-
 returns-4 : tie.Need-returns-4
 returns-4 c =
     let v = c .before .before .before .before .before in
@@ -65,13 +59,4 @@ returns-4 c =
     ∙ sym (judged-from-bits v (c .before .before .before .if2 .left))
 
 pub judge-spec : {M : Type 1} → statement M
-judge-spec =
-    tie.close
-    (tie.spec
-    returns
-    float-to-bits-bits
-    returns-2
-    returns-3
-    round-scaled-requires
-    judge-whole-requires
-    returns-4)
+judge-spec = tie.close (tie.spec returns float-to-bits-bits returns-2 returns-3 (λ c κs. search needs) (λ c κs. search needs) returns-4)

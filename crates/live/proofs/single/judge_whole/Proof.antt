@@ -20,16 +20,10 @@ returns c =
     let v = c .before .args in
     sym (whole-outside (v .low) (v .high) _ (beyond (v .low) (v .high) (v .whole .below) (v .whole .size) (c .before .pre) (c .before .fits .high) (c .if1 .taken)))
 
-cast-magnitude : tie.Need-cast-magnitude
-cast-magnitude c = search needs
-
 sub-value : tie.Need-sub-value
 sub-value c =
     let n = c .before .before .args .whole .size in
     subst⁻¹ (SFits w16) (machine-below n (c .before .if1 .left)) (sided-fits true n (c .before .if1 .left))
-
-is-within-signed-requires : tie.Need-is-within-signed-requires
-is-within-signed-requires c κs = search needs
 
 -- the value, whichever way it came
 value-is : (c : tie.Joined2) → toZ w16 (c .if2 .value) ≡ sided (c .before .before .args .whole .below) (c .before .before .args .whole .size)
@@ -60,6 +54,4 @@ returns-3 c =
     sym (whole-outside (v .low) (v .high) _ (sym (within-is (c .before)) ∙ c .if3 .left))
 
 pub judge-whole-spec : {M : Type 1} → statement M
-judge-whole-spec =
-    tie.close
-    (tie.spec returns cast-magnitude sub-value is-within-signed-requires returns-2 returns-3)
+judge-whole-spec = tie.close (tie.spec returns (search needs) sub-value (search needs) returns-2 returns-3)

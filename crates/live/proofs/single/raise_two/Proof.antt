@@ -9,9 +9,6 @@ use borrow.Author.Needs.{needs}
 use Rattle.live.proofs.single.raise_two.Statement.{statement}
 use Rattle.live.proofs.single.raise_two.Tie as tie
 
-shl-result : tie.Need-shl-result
-shl-result c = search needs
-
 exact : (k : ℕ) → k < 64 → 1 * 2 ^ k % 2 ^ 64 ≡ 2 ^ k
 exact k h = shl-exact {a = 1} 1 k 64 (lit< tt) (omega arith) ∙ one-mul (2 ^ k)
 
@@ -19,4 +16,4 @@ returns : tie.Need-returns
 returns c = exact (c .args .exponent) (c .pre)
 
 pub raise-two-spec : {M : Type 1} → statement M
-raise-two-spec = tie.close (tie.spec shl-result returns)
+raise-two-spec = tie.close (tie.spec (search needs) returns)

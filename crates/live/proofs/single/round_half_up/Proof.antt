@@ -8,12 +8,6 @@ use Rattle.live.proofs.Rounding.{nearest-up, nearest-down}
 use Rattle.live.proofs.single.round_half_up.Statement.{statement}
 use Rattle.live.proofs.single.round_half_up.Tie as tie
 
-div-whole : tie.Need-div-whole
-div-whole c = search needs
-
-rem-rest : tie.Need-rem-rest
-rem-rest c = search needs
-
 mul-if1 : tie.Need-mul-if1
 mul-if1 c = omega (arith, mod-lt (c .args .top) (c .pre .0))
 
@@ -32,5 +26,4 @@ returns-2 : tie.Need-returns-2
 returns-2 c = sym (nearest-down (c .before .args .top) (c .before .args .bottom) (c .before .pre .0) (omega arith))
 
 pub round-half-up-spec : {M : Type 1} → statement M
-round-half-up-spec =
-    tie.close (tie.spec div-whole rem-rest mul-if1 add-if1 add-result returns returns-2)
+round-half-up-spec = tie.close (tie.spec (search needs) (search needs) mul-if1 add-if1 add-result returns returns-2)

@@ -13,15 +13,6 @@ returns c =
     let v = c .before .args in
     sym (whole-near (v .offset) (v .times) (v .bits) (c .before .fits .times .fits) (c .if1 .taken))
 
-sub-raise-two : tie.Need-sub-raise-two
-sub-raise-two c = search needs
-
-raise-two-requires : tie.Need-raise-two-requires
-raise-two-requires c κs = search needs
-
-add-digits : tie.Need-add-digits
-add-digits c = search needs
-
 -- the bottom is 2^1 to 2^40
 bottom-small : (f : ℕ) → 110 ≤ f → 2 ^ (150 - f) ≤ 1099511627776
 bottom-small f h = pow-mono {i = 150 - f} {j = 40} (omega arith)
@@ -37,9 +28,6 @@ digits-product c = product-small (c .before .before .fits .times .fits) (omega a
 
 mul-add-sided : tie.Need-mul-add-sided
 mul-add-sided c = omega (arith, offset-product c)
-
-cast-add-sided : tie.Need-cast-add-sided
-cast-add-sided c = search needs
 
 mul-add-sided-2 : tie.Need-mul-add-sided-2
 mul-add-sided-2 c = omega (arith, digits-product c)
@@ -65,14 +53,5 @@ returns-2 c =
 pub round-scaled-spec : {M : Type 1} → statement M
 round-scaled-spec =
     tie.close
-    (tie.spec
-    returns
-    sub-raise-two
-    raise-two-requires
-    add-digits
-    mul-add-sided
-    cast-add-sided
-    mul-add-sided-2
-    add-sided-requires
-    round-half-up-requires
-    returns-2)
+    (tie.spec returns (search needs) (search needs) (search needs) mul-add-sided (search needs) mul-add-sided-2 add-sided-requires
+    round-half-up-requires returns-2)
