@@ -4,7 +4,7 @@ import sys
 from dataclasses import dataclass
 
 from .fields import HOLDS
-from .jobfiles import plain
+from .hints import plain
 from .program import Refused
 from .refusals import Explained
 

@@ -5,7 +5,7 @@ import os
 import sys
 
 from . import build, commands, helps, outputs
-from .jobfiles import BadFile
+from .badfile import BadFile
 from .outputs import NotWritten
 from .program import Program, ProgramFailed, Refused
 
@@ -75,10 +75,10 @@ def writes(own, option, metavar, told, default=None):
 
 def ready(options):
     """The options, once no output can cost anything that is there. `-` as an output takes the page's place."""
-    places = {option: getattr(options, option.strip("-")) for option in getattr(options, "written", ())}
-    outputs.check([options.job] if "job" in options else [], places, getattr(options, "force", False))
-    options.page = outputs.STANDARD not in places.values()
-    return options
+    options.places = {option: getattr(options, option.strip("-")) for option in getattr(options, "written", ())}
+    options.force = getattr(options, "force", False)
+    outputs.check([options.job] if "job" in options else [], options.places, options.force)
+    options.page = outputs.STANDARD not in options.places.values()
 
 
 def main(words=None):

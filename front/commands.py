@@ -4,10 +4,11 @@ import os
 import sys
 
 from . import book as books
-from . import draw_worksheet, figures, outputs, page, pages, plot, report_record, rework, short_pages
+from . import draw_worksheet, figures, jobs, outputs, page, pages, plot, report_record, rework, short_pages
 from . import ticket_worksheet, worksheet
 from . import worked as works
-from .jobfiles import BadFile, plain
+from .badfile import BadFile
+from .hints import plain
 from .program import Refused
 
 DONE, REFUSED = 0, 1
@@ -30,7 +31,9 @@ def job(kind):
     before its end."""
 
     def command(options, program):
-        worked = works.read(options.job, kind, program)
+        own = jobs.read(options.job, kind)
+        outputs.check(own.files, options.places, options.force)
+        worked = works.work(own, program)
         if worked.has_figures:
             write_outputs(options, worked)
             show(options, pages.build(worked))

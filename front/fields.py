@@ -4,20 +4,23 @@ from dataclasses import dataclass
 
 from .units import Unit
 
-DEGREE = Unit("°F", 1, ("°F", "F"))
-PSI = Unit("psi", 0, ("psi", "psig"))
-PER_DEGREE = Unit("per °F", 7, ("per °F", "/°F"))
-INCH = Unit("in", 3, ("in", "inch", '"'))
-PER_PSI = Unit("per psi", 8, ("per psi", "/psi"))
+# Spellings are as `units.normal` leaves them: F is °F, degF, deg F, ℉ and º F too.
+DEGREE = Unit("°F", 1, ("f", "fahrenheit"))
+PSI = Unit("psi", 0, ("psi", "psig", "psigage", "psigauge"))
+PER_DEGREE = Unit("per °F", 7, ("perf", "/f", "1/f"))
+INCH = Unit("in", 3, ("in", "inch", "inches", '"', "\u2032\u2032"))
+PER_PSI = Unit("per psi", 8, ("perpsi", "/psi", "1/psi"))
 FACTOR = Unit("", 4)
 FINE_FACTOR = Unit("", 6)
-BARREL = Unit("bbl", 4, ("bbl", "barrel", "barrels"))
-READING = Unit("bbl", 2, ("bbl", "barrel", "barrels"))
-CUBIC_INCH = Unit("in³", 2, ("in³", "in3"))
-PULSE = Unit("pulses", 0, ("pulses",), "pulse")
-PULSES_PER_BARREL = Unit("pulses/bbl", 3, ("pulses/bbl", "pulses per barrel"))
-TEN_THOUSANDTH = Unit("%", 2, ("%",))
-SEDIMENT_PERCENT = Unit("%", 3, ("%",))
+BARRELS = ("bbl", "bbls", "barrel", "barrels")
+BARREL = Unit("bbl", 4, BARRELS)
+READING = Unit("bbl", 2, BARRELS)
+CUBIC_INCH = Unit("in³", 2, ("in3", "in^3", "cuin", "cubicinch", "cubicinches"))
+PULSE = Unit("pulses", 0, ("pulse", "pulses"), "pulse")
+PULSES_PER_BARREL = Unit("pulses/bbl", 3, ("pulses/bbl", "pulses/barrel", "pulsesperbarrel", "pulsesperbbl", "p/bbl"))
+PERCENT = ("%", "percent", "pct")
+TEN_THOUSANDTH = Unit("%", 2, PERCENT)
+SEDIMENT_PERCENT = Unit("%", 3, PERCENT)
 NUMBER = Unit("", 0)
 
 # What a place of a record or an operand of a line can hold, by the letters of Python's struct.
@@ -115,11 +118,18 @@ LIVE = named(
     Field("pressure", "pressure", PSI, 0, 1500, "H"),
 )
 
-# What a job file may say in words, and how the page names it.
+# How the page names what a job file often says in its [heading]; any other key is named by itself.
 HEADING = {
     "title": "Title", "report": "Report no.", "company": "Company", "station": "Station", "meter": "Meter",
     "liquid": "Liquid", "batch": "Batch", "operator": "Operator", "date": "Date and time", "note": "Note",
 }  # fmt: skip
+
+
+def heading_label(key):
+    """How the page names a key of [heading]."""
+    words = key.replace("_", " ").strip()
+    return HEADING.get(key) or words[:1].upper() + words[1:]
+
 
 RUNS, FILLS, PASSES = (5, 20), (3, 60), (3, 20)
 GROUP_OF_RUNS, GROUP_OF_PASSES = 5, 3

@@ -16,8 +16,9 @@ standard output, in place of the page. examples/ has jobs of every kind and of e
 JOB_FILE = f"""\
 A job file is TOML. Numbers are in the units that people write and are taken exactly: more digits than
 the unit has is an error, never a rounding. A number may stand alone (73.5) or in quotes with its unit
-("73.5 °F"). [heading], never needed, takes texts for the head of the page:
-{", ".join(fields.HEADING)}."""
+("73.5 °F", "73.5 degF"). [heading], never needed, takes what the head of the page shows, in its order,
+under any key; {", ".join(fields.HEADING)}
+have names of their own there. All faults of a file are told at once, each with its line."""
 
 WIDTH = 26
 
@@ -51,6 +52,10 @@ def entries(name, known):
         f"[[{name}]], one for each; [every_{name}] holds what all share, and a {name}'s own key wins",
         *keys(known),
         row("record", f'instead of all others: the 32 bytes of the {name}\'s record in hex, "40 0d 03 .."'),
+        f"[{name}s] in place of [[{name}]]: a CSV with a line a {name}, under the keys as headings",
+        row("file", "its name, beside the job file"),
+        row("ignore", 'headings that are no part of the job: ["Time"]'),
+        row("any key of a " + name, 'the heading that its column has: "Prover temp (°F)"'),
     ]
 
 

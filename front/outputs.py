@@ -10,7 +10,8 @@ import stat
 import sys
 import tempfile
 
-from .jobfiles import BadFile, plain
+from .badfile import BadFile
+from .hints import plain
 
 STANDARD = "-"
 

@@ -5,7 +5,7 @@ from dataclasses import dataclass
 from typing import NamedTuple
 
 from . import version
-from .fields import HEADING
+from .fields import HEADING, heading_label
 
 NAMES = 26
 WIDTH = 100
@@ -70,7 +70,7 @@ class Page:
 def heading(job, by_hand=BY_HAND):
     """Which job this is, what its file says of it, and room for what it does not."""
     told = [("Job file", job.path), ("SHA-256 of the job file", job.digest), ("Worked by", version.NAME)]
-    told += [(HEADING.get(key, key.replace("_", " ").capitalize()), str(words)) for key, words in job.heading.items()]
+    told += [(heading_label(key), words) for key, words in job.heading.items()]
     blanks = [HEADING[key] for key in by_hand if key not in job.heading]
     return [Pairs(told), *([Blanks(blanks)] if blanks else [])]
 

@@ -4,7 +4,7 @@ import struct
 import sys
 
 from .fields import REQUEST, RUN_FACTOR, RUNS
-from .jobfiles import BadFile
+from .badfile import BadFile
 from .records import LENGTH
 from .refusals import Explained
 

@@ -8,7 +8,7 @@ from pathlib import Path
 from typing import NamedTuple
 
 from . import faults, figures, jobs, outputs
-from .jobfiles import BadFile
+from .badfile import BadFile
 from .program import Refused
 from .sheet import text
 from .short_pages import live_words

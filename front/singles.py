@@ -5,7 +5,9 @@ import struct
 from dataclasses import dataclass
 from decimal import Decimal
 
-from .jobfiles import Written, kind_of
+from .hints import echo
+from .tables import kind_of
+from .toml_text import TOLD, Written
 
 EXPECTED = "a number, or eight hex digits in quotes"
 BITS = re.compile(r"(?:0x)?([0-9a-fA-F]{8})")
@@ -36,23 +38,28 @@ def bits_of(number):
 
 
 def single(table, field):
-    """A field's single: a string of eight hex digits is its bits, a number must be held by a single exactly."""
+    """A field's single: a string of eight hex digits is its bits, a number must be held by a single exactly. Zero where
+    there is none to be had."""
+    bits = bits_in(table, field)
+    return Single(bits or "00000000", field.unit.name)
+
+
+def bits_in(table, field):
     if field.key not in table.values:
-        raise table.bad(field.key, f"missing: expected the {field.label} in {field.unit.name}, or its bits in hex")
+        return table.lacks(field.key, f"the {field.label} in {field.unit.name}, or its bits in hex")
     written = table.values[field.key]
+    if written == TOLD:
+        return None
     if type(written) is str:
         match = BITS.fullmatch(written)
-        if not match:
-            raise table.bad(field.key, f"{written} is no single: expected {EXPECTED}")
-        return Single(match.group(1).lower(), field.unit.name)
+        return match[1].lower() if match else table.bad(field.key, f"{echo(written)} is no single: expected {EXPECTED}")
     if isinstance(written, bool) or not isinstance(written, (int, Written)):
-        raise table.bad(field.key, f"expected {EXPECTED}, found {kind_of(written)}")
+        return table.bad(field.key, f"expected {EXPECTED}, found {kind_of(written)}")
     number = Decimal(written if isinstance(written, int) else written.replace("_", ""))
     bits = bits_of(number)
     if bits is None:
-        raise table.bad(field.key, f"is beyond every single: expected {EXPECTED}")
+        return table.bad(field.key, f"is beyond every single: expected {EXPECTED}")
     held = Single(bits, field.unit.name)
     if number.is_nan() or number == Decimal(held.number):
-        return held
-    near = f'the nearest is {held.number}, "{bits}"'
-    raise table.bad(field.key, f"no single holds {written} exactly: {near}")
+        return bits
+    return table.bad(field.key, f'no single holds {echo(written)} exactly: the nearest is {held.number}, "{bits}"')

@@ -1,11 +1,19 @@
 """Decimal numbers as people write them, and whole counts of a unit: exact both ways, by moving the point."""
 
 import re
+import unicodedata
 from dataclasses import dataclass
+
+from .hints import echo, without_commas
 
 # Longer than any figure that the line program takes, short enough that no exponent fills the memory.
 MOST_DIGITS = 40
-WRITTEN = re.compile(r"([+-]?)(\d+)(?:\.(\d+))?(?:[eE]([+-]?\d{1,9}))?")
+WRITTEN = re.compile(r"([+-]?)(\d+)(?:\.(\d+))?(?:[eE]([+-]?\d{1,9}))?", re.ASCII)
+NUMBER = re.compile(r"[+-]?[\d_.,]+(?:[eE][+-]?\d+)?", re.ASCII)
+COMMAS = re.compile(r"[+-]?\d[\d.]*(?:,\d+)+(?:\.\d+)?", re.ASCII)
+# Signs that stand for the degree's; compatibility forms of Unicode make letters or accents of them.
+DEGREES = str.maketrans("º˚−", "°°-")
+CELSIUS = ("c", "celsius", "centigrade")
 
 
 class Inexact(ValueError):
@@ -14,7 +22,7 @@ class Inexact(ValueError):
 
 @dataclass(frozen=True)
 class Unit:
-    """One count is 10^-places of what `name` says; `spellings` may stand behind a number in a job file."""
+    """One count is 10^-places of what `name` says; `spellings`, as `normal` has them, may stand behind a number."""
 
     name: str
     places: int
@@ -33,10 +41,14 @@ class Unit:
     def count(self, written):
         """The count that a written number is, exactly."""
         number, unit = split(str(written))
-        if unit and unit not in self.spellings:
-            wanted = f"in {self.name}" if self.name else "a plain number"
-            raise Inexact(f"{written} is not {wanted}: expected {self.expected}")
+        if unit and normal(unit) not in self.spellings:
+            raise Inexact(f"{echo(written)} {self.not_in(unit)}: expected {self.expected}")
         return self.whole(number)
+
+    def not_in(self, unit):
+        if normal(unit) in CELSIUS and self.name == "°F":
+            return "is in °C, and only °F is taken"
+        return f"is not in {self.name}" if self.name else "is not a plain number"
 
     @property
     def expected(self):
@@ -46,26 +58,40 @@ class Unit:
         return f"{decimals}, in {self.name}"
 
     def whole(self, number):
+        if COMMAS.fullmatch(number):
+            raise Inexact(f"{echo(number)} has a comma: {echo(without_commas(number))}")
         match = WRITTEN.fullmatch(number.replace("_", ""))
         if not match:
-            raise Inexact(f"{number} is not a number: expected {self.expected}")
+            raise Inexact(f"{echo(number)} is not a number: expected {self.expected}")
         sign, before, after, exponent = match.groups()
-        digits = before + (after or "")
+        digits = (before + (after or "")).lstrip("0")
         decimals = len(after or "") - int(exponent or 0)
+        # Zeros past the unit's digits claim nothing: 21152.0 is 21152 exactly.
+        spare = min(max(decimals - self.places, 0), len(digits) - len(digits.rstrip("0")))
+        digits, decimals = digits[: len(digits) - spare], decimals - spare
+        if not digits:
+            return 0
         if decimals > self.places:
-            raise Inexact(f"{number} has more digits than the unit, {self.step}: expected {self.expected}")
+            raise Inexact(f"{echo(number)} has more digits than the unit, {self.step}: expected {self.expected}")
         zeros = self.places - decimals
-        if len(digits.lstrip("0")) + zeros > MOST_DIGITS:
-            raise Inexact(f"{number} has too many digits: expected {self.expected}")
+        if len(digits) + zeros > MOST_DIGITS:
+            raise Inexact(f"{echo(number)} has too many digits: expected {self.expected}")
         return int(sign + digits + "0" * zeros)
 
 
 def split(text):
     """A number and the unit behind it: '73.5 °F' and '73.5°F' are '73.5', '°F'."""
-    match = re.match(r"[+-]?[\d_.]+(?:[eE][+-]?\d+)?", text.strip())
+    text = text.translate(DEGREES).strip()
+    match = NUMBER.match(text)
     if not match:
-        return text.strip(), ""
-    return match.group(), text.strip()[match.end() :].strip()
+        return text, ""
+    return match.group(), text[match.end() :].strip()
+
+
+def normal(unit):
+    """A unit's name without what people write in several ways: case, spaces, points, the degree's sign or word."""
+    folded = unicodedata.normalize("NFKC", unit.translate(DEGREES)).casefold()
+    return re.sub(r"[\s.°]|deg(rees?)?", "", folded)
 
 
 def shown(count, places, group=True):

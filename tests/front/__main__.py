@@ -9,8 +9,9 @@ from pathlib import Path
 HERE = Path(__file__).resolve().parent
 sys.path[:0] = [str(HERE), str(HERE.parent), str(HERE.parents[1])]
 NAMES = (
-    "examples", "badfiles", "damaged", "ranges", "reports", "spreads", "readback", "outputs", "losses", "worksheets",
-    "halves", "plots", "reworks", "sessions", "building", "helping", "readme", "sums",
+    "examples", "badfiles", "faultlines", "spellings", "entryfiles", "damaged", "ranges", "reports", "spreads",
+    "readback", "outputs", "losses", "worksheets", "halves", "plots", "reworks", "sessions", "building", "helping",
+    "readme", "sums",
 )  # fmt: skip
 
 

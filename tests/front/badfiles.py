@@ -1,5 +1,6 @@
 """Bad files of every kind: file, key and what was expected, and exit status 2."""
 
+import re
 import tempfile
 from pathlib import Path
 
@@ -7,6 +8,8 @@ from harness import ROOT, Tally, called, run
 
 GOOD = (ROOT / "examples" / "figure-5.toml").read_text()
 DRAW = (ROOT / "examples" / "water-draw.toml").read_text()
+# The file and the line before what is said; a fault of the whole file has no line.
+FAULT = re.compile(r"^\S+: (line \d+: )?")
 LIVE = "[live]\ntemperature = {}\npressure = 40\n"
 
 
@@ -15,13 +18,14 @@ def changed(old, new, text=GOOD):
     return text.replace(old, new, 1)
 
 
-# A name, the command, the file's content, and what must be said behind the file's name.
+# A name, the command, the file's content, what must be said behind the file's name and the line; how many faults, or 1.
 CASES = (
-    ("not TOML", "prove", "request = = 5", "is not TOML: "),
-    ("a key twice", "prove", "request = 5\nrequest = 6\n", "is not TOML: "),
+    ("not TOML", "prove", changed("request = 5", "request = = 5"), "request: is not TOML: Invalid value"),
+    ("a key twice", "prove", changed("request = 5\n", "request = 5\nrequest = 6\n"),
+     "request: stands there twice: expected once"),
     ("not text", "prove", b"\xff\xfe\x00request", "is not text in UTF-8"),
     ("deep", "prove", "a = " + "[" * 5000, "is not TOML: "),
-    ("empty", "prove", "", "the table [meter] is missing"),
+    ("empty", "prove", "", "the table [meter] is missing", 4),
     ("another kind", "draw", GOOD, "is a job of the kind prove: try ./endakuro prove"),
     ("no request", "prove", changed("request = 5\n", ""),
      "request: missing: expected the request number, 1 to 4,294,967,295"),
@@ -31,7 +35,7 @@ CASES = (
      "run: expected [[run]], one table for each run, found a table"),
     ("run no table", "prove", "run = [1]\n" + GOOD[: GOOD.index("[[run]]")],
      "run 1: expected a table, found a whole number"),
-    ("table no table", "prove", "prover = 3\nrequest = 1\n[meter]\nk_factor = 1\n[[run]]\n",
+    ("table no table", "prove", "prover = 3\n" + changed(GOOD[GOOD.index("[prover]") : GOOD.index("[meter]")], ""),
      "[prover]: expected a table, found a whole number"),
     ("missing key", "prove", changed("wall_thickness = 0.312 # in\n", ""),
      "[prover], wall_thickness: missing: expected the wall thickness, 0.100 to 3.000 in"),
@@ -46,8 +50,6 @@ CASES = (
      "run 1, meter_temprature: unknown key: did you mean meter_temperature?"),
     ("too many digits", "prove", changed("= 63.5", "= 63.55"),
      "run 3, prover_temperature: 63.55 has more digits than the unit, 0.1 °F: expected at most 1 decimal, in °F"),
-    ("a zero too many", "prove", changed("= 63.5", "= 63.50"),
-     "run 3, prover_temperature: 63.50 has more digits than the unit, 0.1 °F"),
     ("parts of a pulse", "prove", changed("17743", "17743.5"),
      "run 1, pulses: 17743.5 has more digits than the unit, 1 pulse: expected a whole number, in pulses"),
     ("too many by exponent", "prove", changed("8.23e-6", "8.235e-6"),
@@ -58,7 +60,8 @@ CASES = (
     ("a key with a control character", "prove", changed("[meter]", '[meter]\n"a\\u001b[2J" = 1'),
      "[meter], a?[2J: unknown key: expected one of k_factor"),
     ("an immense number", "prove", changed("30_000_000", "9" * 60), "[prover], modulus: has too many digits"),
-    ("beyond Python", "prove", changed("30_000_000", "9" * 6000), "is not TOML: "),
+    ("beyond Python", "prove", changed("30_000_000", "9" * 6000),
+     f"[prover], modulus: {'9' * 80} .. has too many digits"),
     ("beyond its place", "prove", changed("= 63.5", "= 4000.0"),
      "run 3, prover_temperature: 4,000.0 °F does not fit its place: expected -20.0 to 200.0 °F"),
     ("below its place", "prove", changed("= 80", "= -1"),
@@ -66,7 +69,7 @@ CASES = (
     ("not finite", "prove", changed("= 63.5", "= nan"),
      "run 3, prover_temperature: nan is not a number: expected at most 1 decimal, in °F"),
     ("another unit", "prove", changed("= 63.5", '= "17.5 °C"'),
-     "run 3, prover_temperature: 17.5 °C is not in °F: expected at most 1 decimal, in °F"),
+     "run 3, prover_temperature: 17.5 °C is in °C, and only °F is taken: expected at most 1 decimal, in °F"),
     ("a unit on a plain number", "prove", changed("0.9975", '"0.9975 psi"'),
      "[every_run], prover_ctl: 0.9975 psi is not a plain number: expected at most 4 decimals"),
     ("text for a number", "prove", changed("= 63.5", '= "warm"'),
@@ -88,15 +91,15 @@ CASES = (
     ("record not hex", "prove", GOOD + '[[run]]\nrecord = "xyz"\n', "run 6, record: expected hex digits, two a byte"),
     ("record not alone", "prove", GOOD + f'[[run]]\npulses = 1\nrecord = "{"00" * 32}"\n',
      "run 6, record: expected alone: a record holds every field"),
-    ("heading a number", "prove", changed('"API MPMS 12.2, Figure 5"', "5.5"),
-     "[heading], title: expected text in quotes, found a number"),
+    ("heading a list", "prove", changed('"API MPMS 12.2, Figure 5"', "[5.5]"),
+     "[heading], title: expected text in quotes, a number or a date, found a list"),
     ("heading with a control character", "prove", changed('2, Figure 5"', '\\u001b[2J"'),
      "[heading], title: expected one line of text without control characters"),
     ("pass beyond a byte", "draw", changed("pass = 1", "pass = 256", DRAW),
      "fill 1, pass: 256 does not fit its place: expected 0 to 255"),
     ("a fill's key slipped", "draw", changed("ctdw", "ctwd", DRAW), "fill 1, ctwd: unknown key: did you mean ctdw?"),
     ("ticket without a key", "ticket", "[ticket]\nopening = 1\n",
-     "[ticket], closing: missing: expected the closing reading, 0.00 to 999,999.99 bbl"),
+     "[ticket], closing: missing: expected the closing reading, 0.00 to 999,999.99 bbl", 6),
     ("no single", "live", LIVE.format("73.3"),
      '[live], temperature: no single holds 73.3 exactly: the nearest is 73.3000030517578125, "4292999a"'),
     ("beyond every single", "live", LIVE.format("1e39"), "[live], temperature: is beyond every single"),
@@ -109,11 +112,14 @@ def test():
     tally = Tally("bad files")
     with tempfile.TemporaryDirectory() as folder:
         path = Path(folder) / "job.toml"
-        for name, command, content, expected in CASES:
+        for name, command, content, expected, *count in CASES:
             path.write_bytes(content if isinstance(content, bytes) else content.encode())
             status, out, err = called(command, path)
             tally.same((status, out), (2, ""), f"{name}: status and page")
-            tally.check(err.startswith(f"{path}: {expected}"), f"{name}: expected {expected!r}, found {err!r}")
+            told = [FAULT.sub("", line) for line in err.splitlines() if line.startswith(f"{path}: ")]
+            found = any(each.startswith(expected) for each in told)
+            tally.check(found, f"{name}: expected {expected!r}, found {err!r}")
+            tally.same(len(told), *count or [1], f"{name}: faults told, {err!r}")
         places = (("prove", Path(folder) / "none.toml", "No such file"), ("prove", folder, "Is a directory"))
         places += (("read", Path(folder) / "none", "No such file"), ("book", Path(folder) / "none", "No such file"))
         for command, place, expected in places:

@@ -11,6 +11,7 @@ CALLS = {"round", "float", "Decimal", "Fraction", "divmod", "sum", "pow", "ceil"
 KNOWN = {
     ("build", ""): "paths",
     ("build", "is_current"): "paths",
+    ("entry_files", "tables"): "paths",
     ("fields", ""): "what a place of 1, 2 or 4 bytes holds",
     ("figures", "tightest"): "halving the limits to ask for",
     ("page", "grid"): "widths of columns",
@@ -19,7 +20,7 @@ KNOWN = {
     ("sheet", "pointed"): "a power of ten inside a formula",
     ("singles", "number"): "a single's exact number",
     ("singles", "bits_of"): "a number's single",
-    ("singles", "single"): "a number's single",
+    ("singles", "bits_in"): "a number's single",
     ("ticker", "bar"): "a bar's length",
 }
 GEOMETRY = {"plot", "plot_scale"}

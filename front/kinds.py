@@ -1,0 +1,91 @@
+"""The kinds of job: what each holds, and what of it the line program is given. `digest` is its file's SHA-256, by which
+a page is known to be the job's; `files` are read with it because it names them, and then the digest is of all."""
+
+from dataclasses import dataclass
+
+from . import fields
+
+
+@dataclass(frozen=True)
+class Prover:
+    metal: int | None
+    coefficient: int | None
+    pipe: dict
+    base: int
+
+    @property
+    def metal_words(self):
+        """METAL COEFFICIENT; a certificate of 0 is none to the line program, so no name may stand in for it."""
+        if self.coefficient == 0 or self.metal is None:
+            return (fields.NO_METAL, self.coefficient)
+        return (self.metal, self.coefficient or 0)
+
+    @property
+    def words(self):
+        return (*self.metal_words, *self.pipe.values(), self.base)
+
+    @property
+    def in_use(self):
+        """The coefficient that the factors are worked with: 'A certificate wins over the name'."""
+        return fields.METAL_COEFFICIENTS[self.metal] if self.coefficient is None else self.coefficient
+
+
+@dataclass(frozen=True)
+class Entry:
+    """A run or a fill: its named counts and its record."""
+
+    counts: dict
+    record: bytes
+
+
+@dataclass(frozen=True)
+class Proving:
+    path: str
+    heading: dict
+    request: int
+    prover: Prover
+    k_factor: int
+    limit: int
+    runs: list
+    digest: str = ""
+    files: tuple = ()
+    kind = "prove"
+
+    @property
+    def records(self):
+        return b"".join(run.record for run in self.runs)
+
+
+@dataclass(frozen=True)
+class Draw:
+    path: str
+    heading: dict
+    prover: Prover
+    fills: list
+    digest: str = ""
+    files: tuple = ()
+    kind = "draw"
+
+    @property
+    def records(self):
+        return b"".join(fill.record for fill in self.fills)
+
+
+@dataclass(frozen=True)
+class Ticket:
+    path: str
+    heading: dict
+    counts: dict
+    digest: str = ""
+    files: tuple = ()
+    kind = "ticket"
+
+
+@dataclass(frozen=True)
+class Live:
+    path: str
+    heading: dict
+    singles: dict
+    digest: str = ""
+    files: tuple = ()
+    kind = "live"
