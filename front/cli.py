@@ -4,7 +4,7 @@ import argparse
 import os
 import sys
 
-from . import build, commands, helps, outputs
+from . import build, commands, helps, outputs, suffixes
 from .badfile import BadFile
 from .outputs import NotWritten
 from .program import Program, ProgramFailed, Refused
@@ -34,14 +34,17 @@ def parser():
     writes(prove, "--record", "OUT", "write the 32-byte report record; nothing when refused")
     writes(prove, "--worksheet", "OUT.csv", "write the job as a spreadsheet with live formulas")
     writes(prove, "--plot", "OUT.svg", "write a picture of the run factors and the limit's band")
+    writes(prove, "--html", "OUT.html", "write the page with its plot for print, one sheet of Letter or A4")
 
     draw = command("draw", commands.draw, "a water draw: the prover's base volume", helps.DRAW)
     job_of(draw)
     writes(draw, "--worksheet", "OUT.csv", "write the job as a spreadsheet with live formulas")
+    writes(draw, "--html", "OUT.html", "write the page for print, one sheet of Letter or A4")
 
     ticket = command("ticket", commands.ticket, "a measurement ticket: gross and net volume", helps.TICKET)
     job_of(ticket)
     writes(ticket, "--worksheet", "OUT.csv", "write the ticket as a spreadsheet with live formulas")
+    writes(ticket, "--html", "OUT.html", "write the ticket for print, one sheet of Letter or A4")
 
     live = command("live", commands.live, "a live reading: singles to tenths and psi", helps.LIVE)
     job_of(live)
@@ -78,6 +81,7 @@ def ready(options):
     options.places = {option: getattr(options, option.strip("-")) for option in getattr(options, "written", ())}
     options.force = getattr(options, "force", False)
     outputs.check([options.job] if "job" in options else [], options.places, options.force)
+    suffixes.check(options.places)
     options.page = outputs.STANDARD not in options.places.values()
 
 

@@ -34,8 +34,8 @@ def job(kind):
         own = jobs.read(options.job, kind)
         outputs.check(own.files, options.places, options.force)
         worked = works.work(own, program)
+        write_outputs(options, worked)
         if worked.has_figures:
-            write_outputs(options, worked)
             show(options, pages.build(worked))
         return refuse_job(options, worked) if worked.refusal else DONE
 
@@ -43,9 +43,12 @@ def job(kind):
 
 
 def write_outputs(options, worked):
-    if getattr(options, "worksheet", None):
+    """The page for print says of a refused job that it is; without figures there is nothing else to write."""
+    if getattr(options, "html", None):
+        outputs.write(options.html, pages.printed(worked))
+    if getattr(options, "worksheet", None) and worked.has_figures:
         outputs.write(options.worksheet, WORKSHEETS[worked.job.kind](worked).octets)
-    if getattr(options, "plot", None):
+    if getattr(options, "plot", None) and worked.has_figures:
         outputs.write(options.plot, plot.draw(worked))
     if getattr(options, "record", None) and worked.answer:
         outputs.write(options.record, worked.answer.record)

@@ -17,7 +17,7 @@ def words(text):
     return escape(re.sub(r"[^\t\n\r\x20-\ud7ff\ue000-\ufffd\U00010000-\U0010ffff]", "?", text))
 
 
-def label(x, y, text, anchor="middle", size=13, extra=""):
+def label(x, y, text, anchor="middle", size=15, extra=""):
     return f'<text x="{x:.1f}" y="{y:.1f}" text-anchor="{anchor}" font-size="{size}"{extra}>{words(text)}</text>'
 
 
@@ -31,16 +31,16 @@ def axes(frame):
     for there, edge, y in ((frame.above, frame.ceiling, frame.ceiling - 14), (frame.below, frame.floor, floor - 14)):
         if there:
             drawn += [line(LEFT, edge, right, edge, INK, ' stroke-width="0.7" stroke-dasharray="6 3"')]
-            drawn += [label(LEFT - 10, y, "off the scale", "end", 10)]
+            drawn += [label(LEFT - 10, y, "off the scale", "end", 11)]
     for factor in frame.steps:
         y = frame.y(factor)
         drawn.append(line(LEFT, y, right, y, QUIET, ' stroke-width="0.5" stroke-dasharray="2 4"'))
         drawn.append(label(LEFT - 10, y + 4, shown(factor, 4), "end"))
     drawn += [label(frame.x(run), floor + 22, str(run)) for run in range(1, frame.count + 1)]
     drawn += [line(LEFT, floor, right, floor, INK), line(LEFT, TOP, LEFT, floor, INK)]
-    drawn.append(label((LEFT + right) / 2, floor + 50, "Run", size=14))
+    drawn.append(label((LEFT + right) / 2, floor + 50, "Run", size=16))
     middle = (TOP + floor) / 2
-    drawn.append(label(24, middle, "Run factor", size=14, extra=f' transform="rotate(-90 24 {middle:.1f})"'))
+    drawn.append(label(24, middle, "Run factor", size=16, extra=f' transform="rotate(-90 24 {middle:.1f})"'))
     return drawn
 
 
@@ -75,7 +75,7 @@ def marks(frame, factors, accepted):
             f"<title>run {run}: {shown(factor, 4)}</title></circle>"
         )
         if frame.is_off(factor):
-            drawn.append(label(x + 10, y + 4, shown(factor, 4), "start", 11, ' class="off"'))
+            drawn.append(label(x + 10, y + 4, shown(factor, 4), "start", 14, ' class="off"'))
     return drawn
 
 
@@ -120,7 +120,7 @@ def draw(worked):
         f"<title>{words(name)}: {words(told)}</title>",
         f'<rect width="{WIDTH}" height="{HEIGHT}" fill="#ffffff"/>',
         label(LEFT, 34, name, "start", 18, ' font-weight="bold"'),
-        label(LEFT, 58, f"Request {job.request}: {told}", "start", 13, colour),
+        label(LEFT, 58, f"Request {job.request}: {told}", "start", 15, colour),
         *band(frame, worked.group, job.limit),
         *(meter_factor(frame, outcome.factor) if outcome else []),
         *axes(frame),

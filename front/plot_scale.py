@@ -4,7 +4,7 @@ off the scale, in a lane at the edge with its factor beside it."""
 import math
 
 WIDTH, HEIGHT = 900, 520
-LEFT, RIGHT, TOP, BOTTOM = 90, 190, 80, 70
+LEFT, RIGHT, TOP, BOTTOM = 100, 190, 80, 70
 LANE = 36
 FEWEST_STEPS = 6
 MOST_BANDS = 4

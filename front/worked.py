@@ -2,7 +2,7 @@
 
 from dataclasses import dataclass
 
-from . import faults, figures, jobs
+from . import faults, figures
 from .program import Refused
 from .refusals import Explained
 
@@ -75,8 +75,3 @@ WORKERS = {"prove": prove, "draw": draw, "ticket": ticket, "live": live}
 
 def work(job, program):
     return WORKERS[job.kind](job, program)
-
-
-def read(path, kind, program):
-    """The job of a file, worked; `kind` is the one that the command takes."""
-    return work(jobs.read(path, kind), program)

@@ -16,11 +16,11 @@ KEYS = {
 }
 WORDS = {
     "prove": (
-        *("--record OUT", "--worksheet OUT", "--plot OUT"),
+        *("--record OUT", "--worksheet OUT", "--plot OUT", "--html OUT"),
         *("[prover]", "[meter]", "[[run]]", "[every_run]", *fields.METALS),
     ),
-    "draw": ("--worksheet OUT", "[prover]", "[[fill]]", "[every_fill]", *fields.METALS),
-    "ticket": ("--worksheet OUT", "[ticket]"),
+    "draw": ("--worksheet OUT", "--html OUT", "[prover]", "[[fill]]", "[every_fill]", *fields.METALS),
+    "ticket": ("--worksheet OUT", "--html OUT", "[ticket]"),
     "live": ("[live]", "nan or inf", "bits"),
     "read": ("RECORD", "--hex BYTES"),
     "book": ("request SHIPPER NUMBER", "withdraw SHIPPER NUMBER", "take", "empty", "load LAST L0 L1 L2 L3", "quit"),

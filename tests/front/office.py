@@ -1,10 +1,10 @@
 """LibreOffice without a window: it opens CSV files, works their formulas and saves what it finds."""
 
 import csv
-import os
-import shutil
 import subprocess
 from pathlib import Path
+
+import debian
 
 # Comma, quotes, UTF-8, from the first line; saved with values in full rather than as shown.
 OPEN = "Text - txt - csv (StarCalc):44,34,76,1,,0,false,true"
@@ -13,19 +13,9 @@ SAVE = "csv:Text - txt - csv (StarCalc):44,34,76,1,,0,false,false,false"
 MOST_FILES = 100
 
 
-def install():
-    """Debian's package, where it is missing."""
-    if shutil.which("soffice"):
-        return
-    print("installing libreoffice-calc, once", flush=True)
-    quiet = {"stdout": subprocess.DEVNULL, "check": True, "env": os.environ | {"DEBIAN_FRONTEND": "noninteractive"}}
-    subprocess.run(["apt-get", "update", "-q"], **quiet)
-    subprocess.run(["apt-get", "install", "-y", "-q", "--no-install-recommends", "libreoffice-calc"], **quiet)
-
-
 def recalculated(paths, folder):
     """The rows of each file after LibreOffice has worked it, in the files' order."""
-    install()
+    debian.install(soffice="libreoffice-calc")
     done = Path(folder) / "recalculated"
     profile = f"-env:UserInstallation={(Path(folder) / 'profile').as_uri()}"
     for at in range(0, len(paths), MOST_FILES):

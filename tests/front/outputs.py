@@ -1,4 +1,5 @@
-"""What commands write besides their page: the record, the worksheet, the plot; on refusal 9 no record, else nothing."""
+"""What commands write besides their page: the record, the worksheet, the plot, the page for print; on refusal 9 no
+record, on others the page for print alone."""
 
 import subprocess
 import tempfile
@@ -7,16 +8,37 @@ from pathlib import Path
 from harness import LAUNCHER, ROOT, Tally, run
 
 EXAMPLES = ROOT / "examples"
-NAMES = ("record", "worksheet", "plot")
+NAMES = {"record": "7.record", "worksheet": "7.csv", "plot": "7.svg", "html": "7.html"}
 
 
 def outputs(folder):
-    return {name: Path(folder) / name for name in NAMES}
+    return {name: Path(folder) / file for name, file in NAMES.items()}
 
 
 def prove(example, places):
     words = [word for name, place in places.items() for word in (f"--{name}", place)]
     return run("prove", EXAMPLES / example, *words)
+
+
+def endings(tally):
+    """An ending that is not ours is an error, before anything is written; a large one is fine."""
+    with tempfile.TemporaryDirectory() as folder:
+        for option, name, expected in (
+            ("--worksheet", "w.ods", "ends in .ods: expected .csv or .xlsx"),
+            ("--worksheet", "w.xls", "ends in .xls: expected .csv or .xlsx"),
+            ("--worksheet", "w", "has no ending: expected .csv or .xlsx"),
+            ("--plot", "p.png", "ends in .png: expected .svg"),
+            ("--html", "h.pdf", "ends in .pdf: expected .html or .htm"),
+        ):
+            path, plot = Path(folder) / name, Path(folder) / "other.svg"
+            more = ("--plot", plot) if option != "--plot" else ()
+            status, out, err = run("prove", EXAMPLES / "second-five.toml", option, path, *more)
+            tally.same((status, out, err), (2, "", f"{path}: {option}: {expected}\n"), name)
+            tally.check(not path.exists() and not plot.exists(), f"{name}: something is written")
+        for option, name in (("--worksheet", "w.CSV"), ("--html", "h.htm")):
+            path = Path(folder) / name
+            tally.same(run("ticket", EXAMPLES / "ticket.toml", option, path)[0], 0, name)
+            tally.check(path.exists(), f"{name} is not written")
 
 
 def test():
@@ -27,6 +49,8 @@ def test():
         tally.same(places["record"].read_bytes(), (EXAMPLES / "report-7.record").read_bytes(), "record")
         tally.holds(places["worksheet"].read_text(), "=ROUND(", "worksheet")
         tally.holds(places["plot"].read_text(), "</svg>", "plot")
+        tally.holds(places["html"].read_text(), "</html>", "page for print")
+        tally.holds(places["html"].read_text(), "</svg>", "plot in the page for print")
         status, out, _ = run("read", places["record"])
         tally.same(status, 0, "the record is read back")
         tally.holds(out, "Meter factor              1.0002", "the record is read back")
@@ -34,7 +58,7 @@ def test():
         tally.holds(out, "Meter factor              1.0002", "the record in hex is read back")
     status, _, err = run("read", "--hex", "")
     tally.same((status, err.splitlines()[-1]), (1, "   record has 0 bytes, range 32"), "no bytes")
-    written = {"prove-05-too-hot.toml": [], "prove-09-runs-drift.toml": ["worksheet", "plot"]}
+    written = {"prove-05-too-hot.toml": ["html"], "prove-09-runs-drift.toml": ["worksheet", "plot", "html"]}
     for name, expected in written.items():
         with tempfile.TemporaryDirectory() as folder:
             places = outputs(folder)
@@ -53,6 +77,7 @@ def test():
         link.symlink_to(LAUNCHER)
         done = subprocess.run([link, "ticket", marked.name], cwd=folder, capture_output=True, text=True)
         tally.same((done.returncode, done.stderr), (0, ""), "through a link, from a folder of its own")
+    endings(tally)
     status, _, err = run("prove", EXAMPLES / "second-five.toml", "--plot", "/nowhere/plot.svg")
     tally.same((status, err), (3, "/nowhere/plot.svg: cannot be written: No such file or directory\n"), "no such place")
     return tally

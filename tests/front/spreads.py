@@ -69,7 +69,8 @@ def within(tally, folder, program):
             missed = tightest == 1 or (high - low) * 10_000 > (tightest - 1) * low
             tally.check(missed, f"job {number}: {tightest} is not the tightest")
             lines = page.text(pages.build(worked))
-            tally.holds(value(lines, "Spread"), f"within {shown(tightest, 2)} % of the smallest; limit", f"job {number}")
+            spread = f"within {shown(tightest, 2)} % of the smallest; limit"
+            tally.holds(value(lines, "Spread"), spread, f"job {number}")
 
 
 def test():

@@ -7,7 +7,7 @@ from harness import ROOT, Tally
 
 OPERATORS = (ast.Mult, ast.Div, ast.FloorDiv, ast.Mod, ast.Pow)
 CALLS = {"round", "float", "Decimal", "Fraction", "divmod", "sum", "pow", "ceil", "fsum", "mean"}
-# (module, function): what it is for. plot.py and plot_scale.py place marks and are free.
+# (module, function): what it is for. What places marks and letters is free.
 KNOWN = {
     ("build", ""): "paths",
     ("build", "is_current"): "paths",
@@ -23,7 +23,7 @@ KNOWN = {
     ("singles", "bits_in"): "a number's single",
     ("ticker", "bar"): "a bar's length",
 }
-GEOMETRY = {"plot", "plot_scale"}
+GEOMETRY = {"plot", "plot_scale", "html_fit"}
 
 
 def is_text(node):

@@ -1,0 +1,95 @@
+"""Pages for print, opened with Chromium and printed on Letter and A4: one sheet each, with every figure of the text."""
+
+import re
+import subprocess
+import tempfile
+from collections import Counter
+from pathlib import Path
+
+import debian
+import jobtexts
+from harness import ROOT, Tally, called
+from reports import widest
+
+EXAMPLES = ROOT / "examples"
+PAPERS = {"Letter": "(letter)", "A4": "(A4)"}
+FIGURE = re.compile(r"\d[\d.,]*\d|\d")
+# What a page that is one file does not have: anything to fetch or to run.
+FETCHED = ("src=", "href=", "url(", "@import", "<link", "<script", "<iframe", "<object", "<img")
+CHROMIUM = ("chromium", "--headless", "--no-sandbox", "--disable-gpu", "--no-pdf-header-footer")
+
+
+def pdf_of(page, paper, folder):
+    """A page printed on a paper: its sheets, their size, its text."""
+    sized, pdf = folder / "sized.html", folder / "page.pdf"
+    sized.write_text(page.replace("@page { ", f"@page {{ size: {paper}; ", 1))
+    profile = f"--user-data-dir={folder / 'profile'}"
+    words = [*CHROMIUM, profile, f"--print-to-pdf={pdf}", sized.as_uri()]
+    subprocess.run(words, check=True, stdout=subprocess.DEVNULL, stderr=subprocess.DEVNULL, timeout=120)
+    told = subprocess.run(["pdfinfo", pdf], capture_output=True, text=True, check=True).stdout
+    info = dict(re.split(r":\s+", line, maxsplit=1) for line in told.splitlines() if re.search(r":\s", line))
+    text = subprocess.run(["pdftotext", "-layout", pdf, "-"], capture_output=True, text=True, check=True).stdout
+    return int(info["Pages"]), info["Page size"], text
+
+
+def figures_of(text):
+    """How often each figure stands in a text; the file's own name may be anything."""
+    return Counter(FIGURE.findall("\n".join(line for line in text.splitlines() if "Job file" not in line)))
+
+
+def jobs(folder):
+    """Jobs of each kind: plain, refused, the widest, the longest."""
+    for name in ("figure-5", "figure-6", "water-draw", "ticket"):
+        yield EXAMPLES / f"{name}.toml"
+    for name in ("prove-09-runs-drift", "draw-09-passes-drift"):
+        yield EXAMPLES / "refusals" / f"{name}.toml"
+    by_chance = [jobtexts.proving_text(max(jobtexts.days(60, 21), key=lambda job: len(job.runs)))]
+    by_chance.append(jobtexts.draw_text(max(jobtexts.draws(60, 22), key=lambda draw: len(draw.fills))))
+    keys = ("company", "station", "batch", "operator")
+    heading = "".join(f'{key} = "{key} of some twenty letters"\n' for key in keys)
+    for number, text in enumerate([*widest(), *by_chance]):
+        path = folder / f"job{chr(97 + number)}.toml"
+        path.write_text(text if "[heading]" in text else f"{text}[heading]\n{heading}")
+        yield path
+
+
+def printed(tally, path, folder):
+    kind = "ticket" if "ticket" in path.name else "draw" if "[[fill]]" in path.read_text() else "prove"
+    out = folder / "page.html"
+    status, text, _ = called(kind, path, "--html", out, "--force")
+    page = out.read_text()
+    tally.check(text.strip() and "<!DOCTYPE html>" in page, f"{path.name}: no page")
+    for word in FETCHED:
+        tally.check(word not in page, f"{path.name}: {word} in the page")
+    tally.same("NOT ACCEPTED: refused 9" in page, status == 1, f"{path.name}: verdict")
+    for paper, size in PAPERS.items():
+        sheets, found, on_paper = pdf_of(page, paper, folder)
+        tally.same(sheets, 1, f"{path.name} on {paper}: sheets")
+        tally.holds(found, size, f"{path.name} on {paper}")
+        missing = figures_of(text) - figures_of(on_paper)
+        tally.same(dict(missing), {}, f"{path.name} on {paper}: figures that are missing")
+        for words in ("Proved by", "Drawn by", "Issued by", "Witnessed by", "Run factor"):
+            expected = words in text if words != "Run factor" else kind == "prove"
+            tally.same(words in on_paper, expected, f"{path.name} on {paper}: {words}")
+
+
+def refused(tally, folder):
+    """Without figures there is still a page, and it says so; the terminal has the message alone."""
+    out = folder / "refused.html"
+    path = EXAMPLES / "refusals" / "prove-05-too-hot.toml"
+    status, text, _ = called("prove", path, "--html", out)
+    tally.same((status, text), (1, ""), "a refusal without figures")
+    sheets, _, on_paper = pdf_of(out.read_text(), "Letter", folder)
+    tally.same(sheets, 1, "a refusal without figures: sheets")
+    for words in ("NOT ACCEPTED: refused 5: record field out of range", "prover temperature is 250.0", "250.0"):
+        tally.holds(on_paper, words, "a refusal without figures")
+
+
+def test():
+    tally = Tally("pages printed by Chromium")
+    debian.install(chromium="chromium", pdftotext="poppler-utils")
+    with tempfile.TemporaryDirectory() as folder:
+        for path in jobs(Path(folder)):
+            printed(tally, path, Path(folder))
+        refused(tally, Path(folder))
+    return tally
