@@ -15,7 +15,7 @@ MOST_FILES = 100
 
 def recalculated(paths, folder):
     """The rows of each file after LibreOffice has worked it, in the files' order."""
-    debian.install(soffice="libreoffice-calc")
+    debian.install("soffice")
     done = Path(folder) / "recalculated"
     profile = f"-env:UserInstallation={(Path(folder) / 'profile').as_uri()}"
     for at in range(0, len(paths), MOST_FILES):

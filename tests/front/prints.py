@@ -87,7 +87,7 @@ def refused(tally, folder):
 
 def test():
     tally = Tally("pages printed by Chromium")
-    debian.install(chromium="chromium", pdftotext="poppler-utils")
+    debian.install("chromium", "pdftotext")
     with tempfile.TemporaryDirectory() as folder:
         for path in jobs(Path(folder)):
             printed(tally, path, Path(folder))
