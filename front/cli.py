@@ -6,8 +6,10 @@ import sys
 
 from . import build, commands, helps, outputs, suffixes
 from .badfile import BadFile
+from .hints import echo
 from .outputs import NotWritten
 from .program import Program, ProgramFailed, Refused
+from .unexpected import words_of
 
 BAD_FILE, FAILED, STOPPED = 2, 3, 130
 
@@ -57,10 +59,19 @@ def parser():
     book = command("book", commands.book, "a session with the book of waiting requests", helps.BOOK)
     book.add_argument("session", nargs="?", metavar="SESSION.txt", help="the steps, a line each; else the keyboard")
 
-    rework = command("rework", commands.rework_folder, "all jobs of a folder: a CSV of results", helps.REWORK)
-    rework.add_argument("folder", metavar="FOLDER", help="the folder of job files; folders inside it are left alone")
+    rework = command("rework", commands.rework_jobs, "many jobs: a CSV of results", helps.REWORK)
+    rework.add_argument("jobs", metavar="JOBS", nargs="+", help="folders of job files, or job files")
+    rework.add_argument("--recursive", action="store_true", help="go into the folders inside too")
+    seconds = {"type": seconds_of, "metavar": "SECONDS", "default": 30}
+    rework.add_argument("--patience", help="how long a file may take before it is skipped (30)", **seconds)
     writes(rework, "--csv", "OUT.csv", "where results go (rework.csv)", "rework.csv")
     return top
+
+
+def seconds_of(word):
+    if not (word.isascii() and word.isdigit() and 0 < int(word[:9]) and len(word) < 9):
+        raise argparse.ArgumentTypeError(f"{echo(word)} is no number of seconds: expected a whole number")
+    return int(word)
 
 
 def job_of(own):
@@ -110,3 +121,7 @@ def main(words=None):
         return FAILED
     except KeyboardInterrupt:
         return STOPPED
+    except Exception as fault:
+        # A fault of the front end: never the status of a refused job.
+        print(f"endakuro: {words_of(fault)}", file=sys.stderr)
+        return FAILED

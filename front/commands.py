@@ -91,5 +91,5 @@ def book(options, program):
         return books.session(file, options.session, program)
 
 
-def rework_folder(options, program):
-    return rework.rework(options.folder, options.csv, options.force, program)
+def rework_jobs(options, program):
+    return rework.rework(options, program)

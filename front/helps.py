@@ -100,6 +100,9 @@ BOOK = "\n".join(
     ]
 )
 REWORK = """\
-Works every *.toml of a folder, of any kind. Each result is a row of the CSV as soon as it is known, each
-refusal and bad file a line. Ctrl-C ends after the job in hand; the rows written stay. Exits 0 when all
-were accepted, 1 when one was refused, 2 when a file was bad, 130 after Ctrl-C."""
+Works every *.toml of the folders, and every file named, of any kind, on all cores. Each job is a row of the
+CSV: its headings, settings, figures, refusal, the file's SHA-256 and the version. Each refusal and bad file
+is a line, and each meter one at the end. What cannot be read, is a pipe or takes too long is skipped with a
+line; a request number that comes twice is remarked on. Ctrl-C ends after the jobs in hand and the rows
+worked stay; a second Ctrl-C ends at once and writes nothing. Exits 0 when all were accepted, 1 when one was
+refused, 2 when a file was bad or skipped, 3 on an unexpected error, 130 after Ctrl-C."""

@@ -1,78 +1,25 @@
-"""All jobs of a folder worked again: a row of CSV each, a line for each refusal, a summary."""
+"""Many jobs worked again: a row of CSV each, a line for each refusal, a summary. One file stops none of the others."""
 
 import csv
 import io
+import os
 import signal
 import sys
-from pathlib import Path
-from typing import NamedTuple
 
-from . import faults, figures, jobs, outputs
-from .badfile import BadFile
-from .program import Refused
-from .sheet import text
-from .short_pages import live_words
+from . import outputs
+from .crew import IN_HAND, Crew
+from .finding import find
+from .hints import plain
+from .meters import Meters
+from .program import ProgramFailed
+from .results import ACCEPTED, BAD, COLUMNS, REFUSED, SKIPPED, cells
 from .ticker import Ticker
-from .units import shown
 
-ACCEPTED, REFUSED, BAD = "accepted", "refused", "bad file"
-STOPPED = 130
-
-
-class Row(NamedTuple):
-    """A job's row of the CSV; what a job has not is left empty."""
-
-    file: str
-    job: str
-    outcome: str
-    result: str = ""
-    unit: str = ""
-    first_used: int | str = ""
-    out_of: int | str = ""
-    report_record: str = ""
-    refusal: int | str = ""
-    at_record: int | str = ""
-    words: str = ""
-
-
-def of_prove(job, program):
-    outcome = figures.prove(job, program)
-    # Bytes set apart: a spreadsheet would take 64 digits in a row for one number.
-    return shown(outcome.factor, 4, False), "meter factor", outcome.first, outcome.runs, outcome.record.hex(" ")
-
-
-def of_draw(job, program):
-    _, barrels, first = figures.draw(job, program)
-    return shown(barrels, 4, False), "bbl base volume", first, job.fills[-1].counts["pass"]
-
-
-def of_ticket(job, program):
-    return shown(figures.ticket(job, program)["net"], 2, False), "bbl net"
-
-
-def of_live(job, program):
-    return (live_words(figures.live(job, program)),)
-
-
-RESULTS = {"prove": of_prove, "draw": of_draw, "ticket": of_ticket, "live": of_live}
-
-
-def worked(path, program):
-    """A job's row. Nothing out of a file or its name becomes a formula of the spreadsheet that opens it."""
-    name = text(path.name)
-    try:
-        job = jobs.read(str(path))
-    except BadFile as bad:
-        return Row(name, "", BAD, words=text(bad.words))
-    try:
-        return Row(name, job.kind, ACCEPTED, *RESULTS[job.kind](job, program))
-    except Refused as refused:
-        told = faults.explain(job, refused.refusal, program)
-        return Row(name, job.kind, REFUSED, refusal=told.number, at_record=told.record, words=told.line)
+FAILED, STOPPED = 3, 130
 
 
 class Stop:
-    """Ctrl-C asks for an end after the job in hand, so that no row is lost or half written."""
+    """Ctrl-C asks for an end after the jobs in hand, so that no row is lost or half written; a second ends at once."""
 
     def __init__(self):
         self.asked = False
@@ -82,6 +29,8 @@ class Stop:
         return self
 
     def ask(self, *_):
+        if self.asked:
+            raise KeyboardInterrupt
         self.asked = True
 
     def __exit__(self, *_):
@@ -89,50 +38,88 @@ class Stop:
             signal.signal(each, handler)
 
 
-def paths_of(folder):
-    if not Path(folder).is_dir():
-        raise BadFile(folder, "", "is not a folder: expected one that holds job files")
-    paths = sorted(Path(folder).glob("*.toml"))
-    if not paths:
-        raise BadFile(folder, "", "holds no job file: expected *.toml")
-    return paths
-
-
-def rework(folder, out, force, program):
-    """The exit status: 0 all accepted, 1 some refused, 2 some files bad, 130 stopped by Ctrl-C."""
-    paths = paths_of(folder)
-    outputs.check(paths, {"--csv": out}, force)
+def rework(options, program):
+    """The exit status: 0 all accepted, 1 some refused, 2 some bad or skipped, 3 an unexpected error, 130 stopped."""
+    found = find(options.jobs, options.recursive)
+    outputs.check(found.paths, options.places, options.force)
     program.ready()
-    with outputs.opened(out) as octets, Stop() as stop:
+    out = sys.stderr if options.csv == outputs.STANDARD else sys.stdout
+    count = min(len(os.sched_getaffinity(0)), 1 + len(found.paths) // IN_HAND)
+    with outputs.opened(options.csv) as octets, Stop() as stop, Crew(count, options.patience) as crew:
         # With a byte order mark, as worksheets have it.
         file = io.TextIOWrapper(octets, "utf-8-sig", newline="", write_through=True)
-        counts = work(paths, file, stop, program, Ticker(len(paths), "jobs", sys.stderr))
+        ticker = Ticker(len(found.paths), "jobs", sys.stderr, out)
+        book = Sheet(file, ticker, options.jobs)
+        try:
+            book.fill(found, crew, stop)
+        finally:
+            ticker.end()
+        # Only now is it known which other files the jobs name.
+        outputs.check(book.files, options.places, True)
         file.detach()
-    done = sum(counts.values())
-    told = ", ".join(f"{count} {outcome}" for outcome, count in counts.items())
-    stopped = f"stopped after {done} of {len(paths)} jobs" if stop.asked else f"{done} jobs"
-    print(f"{stopped}: {told}; results in {out}")
-    if stop.asked:
-        return STOPPED
-    return 2 if counts[BAD] else 1 if counts[REFUSED] else 0
+    print("\n".join(book.summary(found, stop.asked, options.csv)), file=out)
+    return STOPPED if stop.asked else book.status
 
 
-def work(paths, file, stop, program, ticker):
-    """The rows, each written as soon as it is known; how many jobs came to what."""
-    counts = {ACCEPTED: 0, REFUSED: 0, BAD: 0}
-    rows = csv.writer(file)
-    rows.writerow(name.replace("_", " ") for name in Row._fields)
-    try:
-        for path in paths:
-            if stop.asked:
-                break
-            row = worked(path, program)
-            rows.writerow(row)
-            file.flush()
-            counts[row.outcome] += 1
-            if row.words:
-                ticker.say(f"{path}: {row.words}")
-            ticker.done += 1
-    finally:
-        ticker.end()
-    return counts
+class Sheet:
+    """The rows, written in the files' order as soon as all before are known, and what they come to."""
+
+    def __init__(self, file, ticker, places):
+        self.rows, self.ticker = csv.writer(file), ticker
+        self.base = os.path.join(places[0], "") if len(places) == 1 and os.path.isdir(places[0]) else ""
+        self.counts = {ACCEPTED: 0, REFUSED: 0, BAD: 0, SKIPPED: 0}
+        self.requests, self.files, self.meters, self.unexpected = {}, set(), Meters(), False
+        self.rows.writerow(COLUMNS)
+
+    def fill(self, found, crew, stop):
+        known = {path: {"outcome": SKIPPED, "words": why} for path, why in found.skipped.items()}
+        asked = [path for path in found.paths if path not in known]
+        wanted = iter(found.paths)
+        following = next(wanted, None)
+        for path, row in crew.rows(asked, lambda: stop.asked):
+            if "failed" in row:
+                raise ProgramFailed(row["failed"])
+            known[path] = row
+            self.ticker.done += 1
+            while following in known:
+                self.write(following, known.pop(following))
+                following = next(wanted, None)
+        for path in found.paths:
+            if path in known:
+                self.write(path, known[path])
+
+    def write(self, path, row):
+        name = path.removeprefix(self.base)
+        request = row.get("request")
+        if request in self.requests:
+            row["remark"] = f"request {request} is that of {self.requests[request]} too"
+        elif request:
+            self.requests[request] = name
+        self.rows.writerow(cells(name, row))
+        self.counts[row["outcome"]] += 1
+        self.files.update(row.get("files", ()))
+        self.unexpected = self.unexpected or "unexpected" in row
+        self.meters.add(row)
+        for words in filter(None, (self.told(row), row.get("remark"))):
+            self.ticker.say(plain(f"{path}: {words}"))
+
+    def told(self, row):
+        return f"skipped: {row['words']}" if row["outcome"] == SKIPPED else row.get("words")
+
+    def summary(self, found, stopped, out):
+        done = sum(self.counts.values())
+        told = ", ".join(f"{count} {outcome}" for outcome, count in self.counts.items() if count or outcome != SKIPPED)
+        jobs = f"stopped after {done} of {len(found.paths)} jobs" if stopped else f"{done} jobs"
+        left = ", ".join(f"{count} {what}" for what, count in found.left_out.items())
+        place = "standard output" if out == outputs.STANDARD else plain(out)
+        return [
+            *self.meters.lines(),
+            *([f"left out: {left}"] if left else []),
+            f"{jobs}: {told}; results in {place}",
+        ]
+
+    @property
+    def status(self):
+        if self.unexpected:
+            return FAILED
+        return 2 if self.counts[BAD] or self.counts[SKIPPED] else 1 if self.counts[REFUSED] else 0

@@ -15,8 +15,8 @@ def bar(done, total):
 
 
 class Ticker:
-    def __init__(self, total, what, err):
-        self.total, self.what, self.err = total, what, err
+    def __init__(self, total, what, err, out=None):
+        self.total, self.what, self.err, self.out = total, what, err, out
         self.done, self.began = 0, time.monotonic()
         self.shows = err.isatty()
         self.over, self.drawing = threading.Event(), threading.Lock()
@@ -39,7 +39,7 @@ class Ticker:
         with self.drawing:
             if self.shows:
                 print(CLEAR, end="", file=self.err, flush=True)
-            print(line, flush=True)
+            print(line, file=self.out, flush=True)
 
     def end(self):
         if self.shows:

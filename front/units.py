@@ -5,6 +5,7 @@ import unicodedata
 from dataclasses import dataclass
 
 from .hints import echo, without_commas
+from .toml_text import Written
 
 # Longer than any figure that the line program takes, short enough that no exponent fills the memory.
 MOST_DIGITS = 40
@@ -39,8 +40,12 @@ class Unit:
         return f"{shown(count, self.places)} {self.name}".rstrip()
 
     def count(self, written):
-        """The count that a written number is, exactly."""
-        number, unit = split(str(written))
+        """The count that a written number is, exactly: a whole number, one that TOML takes for a number, or a text."""
+        if isinstance(written, int):
+            return int(f"{written}{'0' * self.places}")
+        if isinstance(written, Written):
+            return self.whole(written)
+        number, unit = split(written)
         if unit and normal(unit) not in self.spellings:
             raise Inexact(f"{echo(written)} {self.not_in(unit)}: expected {self.expected}")
         return self.whole(number)
@@ -58,19 +63,20 @@ class Unit:
         return f"{decimals}, in {self.name}"
 
     def whole(self, number):
-        if COMMAS.fullmatch(number):
+        if "," in number and COMMAS.fullmatch(number):
             raise Inexact(f"{echo(number)} has a comma: {echo(without_commas(number))}")
         match = WRITTEN.fullmatch(number.replace("_", ""))
         if not match:
             raise Inexact(f"{echo(number)} is not a number: expected {self.expected}")
-        sign, before, after, exponent = match.groups()
-        digits = (before + (after or "")).lstrip("0")
-        decimals = len(after or "") - int(exponent or 0)
-        # Zeros past the unit's digits claim nothing: 21152.0 is 21152 exactly.
-        spare = min(max(decimals - self.places, 0), len(digits) - len(digits.rstrip("0")))
-        digits, decimals = digits[: len(digits) - spare], decimals - spare
+        sign, before, after, exponent = match.groups("")
+        digits = (before + after).lstrip("0")
+        decimals = len(after) - int(exponent or 0)
         if not digits:
             return 0
+        if decimals > self.places:
+            # Zeros past the unit's digits claim nothing: 21152.0 is 21152 exactly.
+            spare = min(decimals - self.places, len(digits) - len(digits.rstrip("0")))
+            digits, decimals = digits[: len(digits) - spare], decimals - spare
         if decimals > self.places:
             raise Inexact(f"{echo(number)} has more digits than the unit, {self.step}: expected {self.expected}")
         zeros = self.places - decimals

@@ -10,8 +10,9 @@ HERE = Path(__file__).resolve().parent
 sys.path[:0] = [str(HERE), str(HERE.parent), str(HERE.parents[1])]
 NAMES = (
     "examples", "badfiles", "faultlines", "spellings", "entryfiles", "damaged", "ranges", "reports", "spreads",
-    "readback", "outputs", "losses", "worksheets", "halves", "plots", "prints", "reworks", "sessions", "building",
-    "helping", "readme", "sums",
+    "readback", "outputs", "losses", "worksheets", "halves", "plots", "prints",
+    "reworks", "obstacles", "sessions",
+    "building", "helping", "readme", "sums",
 )  # fmt: skip
 
 

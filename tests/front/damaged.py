@@ -7,7 +7,7 @@ from pathlib import Path
 
 from harness import ROOT, Tally
 
-from front import rework
+from front import results
 from front.program import Program
 
 FILES = 1200
@@ -49,14 +49,15 @@ def test():
                 text = damaged(text, rng)
             path.write_text(text)
             try:
-                row = rework.worked(path, program)
+                row = results.worked(str(path), program)
             except Exception as fault:
                 tally.check(False, f"file {number}: {type(fault).__name__}: {fault}\n{text}")
                 break
-            outcomes[row.outcome] = outcomes.get(row.outcome, 0) + 1
-            explained = bool(row.words) == (row.outcome != rework.ACCEPTED)
-            if row.outcome == rework.REFUSED:
-                explained = row.words.startswith(f"refused {row.refusal}: ") and "; " in row.words
-            tally.check(explained, f"file {number}: {row.outcome}, {row.words!r}")
-    tally.same(set(outcomes), {rework.ACCEPTED, rework.REFUSED, rework.BAD}, "outcomes met")
+            outcome, words = row["outcome"], row.get("words", "")
+            outcomes[outcome] = outcomes.get(outcome, 0) + 1
+            explained = bool(words) == (outcome != results.ACCEPTED)
+            if outcome == results.REFUSED:
+                explained = words.startswith(f"refused {row['refusal']}: ") and "; " in words
+            tally.check(explained, f"file {number}: {outcome}, {words!r}")
+    tally.same(set(outcomes), {results.ACCEPTED, results.REFUSED, results.BAD}, "outcomes met")
     return tally

@@ -24,7 +24,7 @@ WORDS = {
     "live": ("[live]", "nan or inf", "bits"),
     "read": ("RECORD", "--hex BYTES"),
     "book": ("request SHIPPER NUMBER", "withdraw SHIPPER NUMBER", "take", "empty", "load LAST L0 L1 L2 L3", "quit"),
-    "rework": ("--csv OUT", "Ctrl-C", "130"),
+    "rework": ("--csv OUT", "--recursive", "--patience SECONDS", "--force", "Ctrl-C", "130"),
 }
 
 

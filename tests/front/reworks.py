@@ -1,18 +1,31 @@
-"""Reworking a folder: its CSV, a line a refusal, the bar on a terminal, nothing lost on Ctrl-C."""
+"""Reworking many jobs: the CSV, a line a refusal, the summary, the bar on a terminal; nothing lost on Ctrl-C."""
 
 import csv
+import io
 import shutil
 import signal
 import subprocess
 import tempfile
 import time
+from hashlib import sha256
 from pathlib import Path
 
 import jobtexts
 from harness import LAUNCHER, ROOT, Tally, at_terminal, run
 
+from front import figures, jobs, spreads, version
+from front.program import Program
+from front.results import COLUMNS
+
 MANY = 3000
 EXAMPLES = ROOT / "examples"
+HEADED = """\
+[heading]
+tank = "T-4"
+meter = "{meter}"
+date = 2026-11-15
+liquid = "=cmd()"
+"""
 
 
 def rows_of(path):
@@ -32,27 +45,99 @@ def mixed(tally, folder):
     tally.same((status, err), (2, ""), "status and complaints")
     tally.same([row["file"].strip() for row in rows], [path.name for path in files], "a row a file, in order")
     tally.check(not any(row["file"].startswith("=") for row in rows), "a name has become a formula")
-    for row in rows:
+    tally.same(tuple(rows[0]), COLUMNS, "columns")
+    for row, path in zip(rows, files):
         parts = row["file"].split("-")
         if len(parts) > 2 and parts[1].isdigit() and (EXAMPLES / "refusals" / row["file"]).exists():
             found = (row["job"], row["outcome"], int(row["refusal"]))
             tally.same(found, (parts[0], "refused", int(parts[1])), row["file"])
             tally.holds(out, f"{folder / row['file']}: {row['words']}\n", "a line a refusal")
-    results = {row["file"]: (row["outcome"], row["result"], row["first used"]) for row in rows}
-    for name, expected in (
-        ("second-five.toml", ("accepted", "1.0002", "2")),
-        ("water-draw.toml", ("accepted", "2.1832", "1")),
-        ("ticket.toml", ("accepted", "493.17", "")),
-        ("live.toml", ("accepted", "73.3 °F, 40 psi", "")),
-        ("bad.toml", ("bad file", "", "")),
-    ):
-        tally.same(results[name], expected, name)
-    record = next(row["report record"] for row in rows if row["file"] == "second-five.toml")
-    tally.same(record, (EXAMPLES / "report-7.record").read_bytes().hex(" "), "report record")
+        tally.same(row["SHA-256"], sha256(path.read_bytes()).hexdigest(), f"{path.name}: digest")
+        tally.same(row["version"], version.NAME, f"{path.name}: version")
     counts = {kind: sum(row["outcome"] == kind for row in rows) for kind in ("accepted", "refused", "bad file")}
     told = ", ".join(f"{count} {kind}" for kind, count in counts.items())
     tally.same(out.splitlines()[-1], f"{len(files)} jobs: {told}; results in {folder / 'out.csv'}", "summary")
+    figures_of(tally, {row["file"]: row for row in rows})
     return files
+
+
+def figures_of(tally, rows):
+    """Each figure in its column, and none where a job has none."""
+    with Program() as program:
+        job = jobs.read(str(EXAMPLES / "second-five.toml"))
+        outcome = figures.prove(job, program)
+        group = figures.five_of(job, outcome.first, outcome.five, program)
+    record = (EXAMPLES / "report-7.record").read_bytes().hex(" ")
+    for name, expected in (
+        ("second-five.toml", {"meter factor": "1.0002", "first used": "2", "out of": "6", "request": "7",
+         "K factor (pulses/bbl)": "10000.000", "base volume (bbl)": "20.0000", "limit (%)": "0.05",
+         "report record": record, "gross (bbl)": ""}),
+        ("water-draw.toml", {"base volume (bbl)": "2.1832", "base volume (in³)": "21181.32", "first used": "1",
+         "out of": "3", "limit (%)": "0.02", "meter factor": ""}),
+        ("ticket.toml", {"gross (bbl)": "495.65", "net (bbl)": "493.17", "meter factor": "1.0002", "request": ""}),
+        ("live.toml", {"temperature (°F)": "73.3", "pressure (psi)": "40"}),
+        ("bad.toml", {"outcome": "bad file", "job": "",
+         "words": "line 1: run: expected [[run]], one table for each run, found a whole number; "
+         "the table [meter] is missing; request: missing: expected the request number, 1 to 4,294,967,295; "
+         "the table [prover] is missing"}),
+        ("prove-09-runs-drift.toml", {"outcome": "refused", "meter factor": "", "base volume (bbl)": "20.0000"}),
+    ):  # fmt: skip
+        tally.same({column: rows[name][column] for column in expected}, expected, name)
+    shown = rows["second-five.toml"]["spread (%)"]
+    tally.check(shown and shown in spreads.against(group, job.limit), f"spread: {shown!r}")
+
+
+def headings(tally, folder):
+    """What files say of themselves: columns, a summary a meter, the same request twice."""
+    text = (EXAMPLES / "second-five.toml").read_text()
+    text = text[: text.index("[heading]")] + text[text.index("[prover]") :]
+    drift = (EXAMPLES / "refusals" / "prove-09-runs-drift.toml").read_text()
+    assert "request = 7\n" in text
+    for number, meter in enumerate(("FT-1", "FT-1", "FT-2")):
+        own = text.replace("= 7\n", f"= {1 + number % 2}\n") + HEADED.format(meter=meter)
+        (folder / f"{number}.toml").write_text(own)
+    (folder / "3.toml").write_text(drift)
+    status, out, _ = run("rework", folder, "--csv", folder / "out.csv")
+    rows = rows_of(folder / "out.csv")
+    tally.same(status, 1, "headings: status")
+    told = {key: rows[0][key] for key in ("date", "meter", "liquid", "other headings", "title")}
+    expected = {"date": "2026-11-15", "meter": "FT-1", "liquid": " =cmd()", "other headings": "tank: T-4", "title": ""}
+    tally.same(told, expected, "headings")
+    remark = "request 1 is that of 0.toml too"
+    tally.same([row["remark"] for row in rows], ["", "", remark, ""], "the same request twice")
+    tally.holds(out, f"{folder / '2.toml'}: {remark}\n", "the same request twice")
+    meters = [line for line in out.splitlines() if line.startswith(("meter ", "no meter"))]
+    factors = "; meter factor 1.0002 to 1.0002"
+    tally.same(meters, [
+        "no meter named: 1 provings, 0 accepted, 1 refused",
+        f"meter FT-1: 2 provings, 2 accepted, 0 refused{factors}",
+        f"meter FT-2: 1 provings, 1 accepted, 0 refused{factors}",
+    ], "a summary a meter")  # fmt: skip
+
+
+def places(tally, folder):
+    """Several files and folders, folders inside, results on standard output."""
+    one, two, inner = folder / "one", folder / "two", folder / "one" / "inner"
+    inner.mkdir(parents=True)
+    two.mkdir()
+    (folder / "one" / "link").symlink_to(two)
+    for place in (one / "a.toml", inner / "b.toml", two / "c.toml", folder / "named.txt", two / "notes.md"):
+        shutil.copy(EXAMPLES / "ticket.toml", place)
+    words = ("rework", one, two, folder / "named.txt", two / "c.toml", "--csv", "-")
+    status, out, err = run(*words)
+    found = [row["file"] for row in csv.DictReader(io.StringIO(out.removeprefix("\ufeff")))]
+    tally.same((status, found), (0, [str(one / "a.toml"), str(two / "c.toml"), str(folder / "named.txt")]), "places")
+    told = "left out: 2 folders inside (--recursive goes into them), 1 files that are not *.toml\n"
+    told += "3 jobs: 3 accepted, 0 refused, 0 bad file; results in standard output\n"
+    tally.same(err, told, "what is left out")
+    status, out, err = run("rework", one, "--recursive", "--csv", "-")
+    found = [row["file"] for row in csv.DictReader(io.StringIO(out.removeprefix("\ufeff")))]
+    tally.same((status, found), (0, ["a.toml", "inner/b.toml"]), "--recursive")
+    tally.holds(err, "left out: 1 links to folders\n", "--recursive")
+    for place in (folder / "none", inner / "none.toml"):
+        status, _, err = run("rework", one, place, "--csv", folder / "x.csv")
+        told = f"{place}: cannot be read: No such file or directory\n"
+        tally.same((status, err, (folder / "x.csv").exists()), (2, told, False), "a place that is not there")
 
 
 def terminal(tally, folder, files):
@@ -96,7 +181,7 @@ def test():
     with tempfile.TemporaryDirectory() as folder:
         files = mixed(tally, Path(folder))
         terminal(tally, Path(folder), files)
-    for part in (statuses, interrupted):
+    for part in (headings, places, statuses, interrupted):
         with tempfile.TemporaryDirectory() as folder:
             part(tally, Path(folder))
     return tally

@@ -1,0 +1,115 @@
+"""A job's row of results: what its file says, what the program answers, and by what it is known again."""
+
+from hashlib import sha256
+
+from . import faults, fields, figures, jobs, version
+from .badfile import BadFile
+from .fields import LIMIT
+from .hints import plain
+from .jobfiles import octets_of
+from .program import Refused
+from .sheet import text
+from .spreads import SPREAD
+from .units import shown
+
+ACCEPTED, REFUSED, BAD, SKIPPED = "accepted", "refused", "bad file", "skipped"
+FIRST_HEADINGS = ("date", "meter", "liquid")
+HEADINGS = (*FIRST_HEADINGS, *(key for key in fields.HEADING if key not in FIRST_HEADINGS))
+OTHERS = "other headings"
+COLUMNS = (
+    "file", "job", "outcome", "request", *HEADINGS, OTHERS, "K factor (pulses/bbl)", "base volume (bbl)",
+    "base volume (in³)", "limit (%)", "spread (%)", "meter factor", "first used", "out of", "gross (bbl)", "net (bbl)",
+    "temperature (°F)", "pressure (psi)", "report record", "refusal", "at record", "words", "remark", "SHA-256",
+    "version",
+)  # fmt: skip
+
+
+def worked(path, program):
+    """A row, by its columns; what a job has not is left out."""
+    try:
+        job = jobs.read(path)
+    except BadFile as bad:
+        return {"outcome": BAD, "words": bad.words, "SHA-256": digest_of(path)}
+    row = {"job": job.kind, "SHA-256": job.digest, "files": job.files, **headings(job), **GIVEN[job.kind](job)}
+    try:
+        return row | {"outcome": ACCEPTED} | ANSWERS[job.kind](job, program)
+    except Refused as refused:
+        told = faults.explain(job, refused.refusal, program)
+        return row | {"outcome": REFUSED, "refusal": told.number, "at record": told.record, "words": told.line}
+
+
+def digest_of(path):
+    try:
+        return sha256(octets_of(path)).hexdigest()
+    except BadFile:
+        return ""
+
+
+def headings(job):
+    own = {key: told for key, told in job.heading.items() if key in HEADINGS}
+    others = "; ".join(f"{key}: {told}" for key, told in job.heading.items() if key not in HEADINGS)
+    return own | ({OTHERS: others} if others else {})
+
+
+def cells(path, row):
+    """The row as it is written: nothing out of a file or its name is a formula or a command of whatever opens it."""
+    told = {"file": path, "version": version.NAME} | row
+    return [text(plain(str(told.get(column, "")))) for column in COLUMNS]
+
+
+def of_proving(job):
+    return {
+        "request": job.request,
+        "K factor (pulses/bbl)": shown(job.k_factor, fields.K_FACTOR.unit.places, False),
+        "base volume (bbl)": shown(job.prover.base, fields.BASE_VOLUME.unit.places, False),
+        "limit (%)": shown(job.limit, LIMIT.unit.places),
+    }
+
+
+def spread_of(group):
+    """A spread, or the tightest limit that is met where the program does not tell it."""
+    if group.spread is not None:
+        return shown(group.spread, SPREAD.places)
+    return f"within {shown(group.within, LIMIT.unit.places)}" if group.within is not None else ""
+
+
+def proved(job, program):
+    outcome = figures.prove(job, program)
+    return {
+        "meter factor": shown(outcome.factor, 4, False),
+        "spread (%)": spread_of(figures.five_of(job, outcome.first, outcome.five, program)),
+        "first used": outcome.first,
+        "out of": outcome.runs,
+        # Bytes set apart: a spreadsheet would take 64 digits in a row for one number.
+        "report record": outcome.record.hex(" "),
+    }
+
+
+def drawn(job, program):
+    cubic_inches, barrels, first = figures.draw(job, program)
+    return {
+        "base volume (bbl)": shown(barrels, 4, False),
+        "base volume (in³)": shown(cubic_inches, 2, False),
+        "spread (%)": spread_of(figures.three_of(figures.of_passes(job, program), first, program)),
+        "first used": first,
+        "out of": job.fills[-1].counts["pass"],
+    }
+
+
+def ticketed(job, program):
+    told = figures.ticket(job, program)
+    return {"gross (bbl)": shown(told["gross"], 2, False), "net (bbl)": shown(told["net"], 2, False)}
+
+
+def read_live(job, program):
+    temperature, pressure = figures.live(job, program)
+    return {"temperature (°F)": shown(temperature, 1, False), "pressure (psi)": shown(pressure, 0, False)}
+
+
+GIVEN = {
+    "prove": of_proving,
+    "draw": lambda job: {"limit (%)": shown(fields.DRAW_LIMIT, LIMIT.unit.places)},
+    "ticket": lambda job: {"meter factor": shown(job.counts["meter_factor"], 4, False)},
+    "live": lambda job: {},
+}
+ANSWERS = {"prove": proved, "draw": drawn, "ticket": ticketed, "live": read_live}
