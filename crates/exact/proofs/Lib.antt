@@ -1,5 +1,6 @@
 pub mod Rounding
 pub mod Answers
+pub mod Words
+pub mod Gathering
 mod Columns
-mod Words
 mod Bits

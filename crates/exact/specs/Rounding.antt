@@ -12,5 +12,4 @@ pub data Fraction : Type 0 where
 
 -- a fraction rounded to d places, as a whole number of 10^-d
 unfoldable pub rounded : ℕ → Fraction → ℕ
-unfolding roundedDiv
 rounded d (num over den) = roundedDiv (num * 10 ^ d) den

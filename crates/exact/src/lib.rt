@@ -1,8 +1,9 @@
-// Exact products and rounded quotients of 64-bit numbers: the lowest layer (01, 'Factors'). No
-// layer above needs more than what these three functions promise.
+// Exact products, sums and rounded quotients of 64-bit numbers: the lowest layer (01, 'Factors'). No
+// layer above needs more than what its functions promise.
 ghost use mathlib.Core.Path.{_≡_};
-ghost use Prim.Native.Nat.{_*_};
-ghost use Rattle.exact.specs.Words.{wideOf, valueOf};
+ghost use Prim.Native.Nat.{_+_, _*_, _^_, _≤_, _<_};
+ghost use lib.Dec.{leb};
+ghost use Rattle.exact.specs.Words.{wideOf, valueOf, sumOf};
 ghost use Rattle.exact.specs.Quotient.{quotientOf, valueOrZero};
 
 mod divider;
@@ -36,6 +37,50 @@ pub fn product(a: u64, b: u64) -> Wide
     Wide {
         hi: a1 * b1 + middle / 4294967296 + next / 4294967296,
         lo: next % 4294967296 * 4294967296 + low % 4294967296,
+    }
+}
+
+// One value more. A caller adds fewer than 2^64 values, so that the upper word has room.
+fn add(sum: Wide, x: u64) -> Wide
+    requires { ⌜ sum .hi + 1 < 2 ^ 64 ⌝ }
+    ensures { λ r. ⌜ (valueOf r ≡ valueOf sum + x) × (r .hi ≤ sum .hi + 1) ⌝ }
+{
+    // what the lower word still holds
+    let room = 18446744073709551615 - sum.lo;
+    if x <= room {
+        Wide {
+            hi: sum.hi,
+            lo: sum.lo + x,
+        }
+    } else {
+        Wide {
+            hi: sum.hi + 1,
+            lo: x - room - 1,
+        }
+    }
+}
+
+// The sum of the values lent: a slice has fewer than 2^64 of them, so that two words hold it.
+pub fn sum(values: &[u64]) -> Wide
+    ensures { λ r. ⌜ r ≡ wideOf (sumOf (now (values .entry))) ⌝ }
+{
+    let mut sum = Wide { hi: 0, lo: 0 };
+    let mut i = 0;
+    while i < values.len() {
+        sum = add(sum, values[i]);
+        i += 1;
+    }
+    sum
+}
+
+// a ≤ b, of numbers of two words.
+pub fn is_at_most(a: Wide, b: Wide) -> bool
+    ensures { λ r. ⌜ r ≡ leb (valueOf a) (valueOf b) ⌝ }
+{
+    if a.hi == b.hi {
+        a.lo <= b.lo
+    } else {
+        a.hi < b.hi
     }
 }
 
@@ -76,4 +121,12 @@ pub fn value_or_zero(quotient: Quotient) -> u64
         Quotient::ZeroDivisor => 0,
         Quotient::TooLarge => 0,
     }
+}
+
+// a * b / d to the nearest whole number, and 0 where there is none: for a caller whose magnitudes
+// rule that out.
+pub fn round_or_zero(a: u64, b: u64, d: u64) -> u64
+    ensures { λ r. ⌜ r ≡ valueOrZero (quotientOf (a * b) d) ⌝ }
+{
+    value_or_zero(rounded_ratio(a, b, d))
 }

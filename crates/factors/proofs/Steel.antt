@@ -12,7 +12,7 @@ use lib.IntN.{ℤ, pos, negsuc, negℤ, natAbs, subℕ, _+ℤ_, _-ℤ_, _*ℤ_, 
 use Rattle.ranges.specs.Table.{temperatureOk, pressureOk, diameterOk, wallOk, modulusOk}
 use Rattle.ranges.proofs.Laws.{both-first, both-second, within-low, within-high}
 use Rattle.ranges.proofs.Counted.{below}
-use Rattle.factors.specs.Answers.{pipeOk}
+use Rattle.factors.specs.Prover.{pipeOk}
 use Rattle.factors.specs.declared.Pipe.{Pipe}
 
 -- a sum that stays above zero

@@ -1,5 +1,5 @@
 -- What each entry answers, by the paper: 3 for a metal or pipe figure out of range, then 5 for a temperature, pressure or F.
-use mathlib.Core.Bool.{Bool, _&&_, cond}
+use mathlib.Core.Bool.{cond}
 use mathlib.Core.List.{List}
 use Prim.Native.Nat.{ℕ, _^_}
 use lib.Dec.{leb, ltb}
@@ -7,14 +7,14 @@ use lib.IntN.{ℤ}
 use lib.ListN.{length}
 use Rattle.refusals.specs.Table.{numberOf, recordOf}
 use Rattle.refusals.specs.Told.{Told, done, refused, demand, orElse, judged}
-use Rattle.ranges.specs.Table.{temperatureOk, pressureOk, modulusOk, diameterOk, wallOk, compressibilityOk}
-use Rattle.exact.specs.Rounding.{rounded}
-use Rattle.exact.specs.declared.Quotient.{Quotient}
-use Rattle.exact.specs.declared.Quotient.the-variants.{Value as Quotient·Value, ZeroDivisor, TooLarge as Quotient·TooLarge}
-use Rattle.factors.specs.Metal.{coefficientOf, metalOk}
-use Rattle.factors.specs.Fractions.{cts, cps, cpl, combined}
+use Rattle.ranges.specs.Table.{temperatureOk, pressureOk}
+use Rattle.factors.specs.Metal.{metalOk}
+use Rattle.factors.specs.Prover.{pipeOk}
+use Rattle.factors.specs.Liquid.{liquidOk}
+use Rattle.factors.specs.Rounded.{ctsAt, cpsAt, cplAt, combinedAt}
 use Rattle.factors.specs.declared.Metal.{Metal}
 use Rattle.factors.specs.declared.Pipe.{Pipe}
+use Rattle.factors.specs.declared.Liquid.{Liquid}
 use Rattle.factors.specs.declared.Factor.{Factor}
 use Rattle.factors.specs.declared.Factor.the-variants.{Value, Refused}
 use Rattle.factors.specs.declared.Combined.{Combined}
@@ -30,26 +30,17 @@ abbrev pub valueOrZero : Factor → ℕ
 valueOrZero (Value factor) = factor
 valueOrZero (Refused refusal) = 0
 
-unfoldable pub pipeOk : Pipe → Bool
-pipeOk pipe = diameterOk (pipe .diameter) && (wallOk (pipe .wall) && modulusOk (pipe .modulus))
-
 -- CTS to d places
 unfoldable pub ctsOf : ℕ → Metal → ℤ → Told ℕ
-ctsOf d metal t = judged (orElse (demand (metalOk metal) 3) (demand (temperatureOk t) 5)) (rounded d (cts t (coefficientOf metal)))
+ctsOf d metal t = judged (orElse (demand (metalOk metal) 3) (demand (temperatureOk t) 5)) (ctsAt d metal t)
 
 -- CPS to d places
 unfoldable pub cpsOf : ℕ → Pipe → ℕ → Told ℕ
-cpsOf d pipe p = judged (orElse (demand (pipeOk pipe) 3) (demand (pressureOk p) 5)) (rounded d (cps p (pipe .diameter) (pipe .modulus) (pipe .wall)))
+cpsOf d pipe p = judged (orElse (demand (pipeOk pipe) 3) (demand (pressureOk p) 5)) (cpsAt d pipe p)
 
 -- CPL to d places
-unfoldable pub cplOf : ℕ → ℕ → ℕ → Told ℕ
-cplOf d f p = judged (demand (pressureOk p && compressibilityOk f) 5) (rounded d (cpl f p))
-
--- a rounded quotient as a combined factor
-abbrev pub heldBy : Quotient → Combined
-heldBy (Quotient·Value q) = Held q
-heldBy ZeroDivisor = TooLarge
-heldBy Quotient·TooLarge = TooLarge
+unfoldable pub cplOf : ℕ → Liquid → Told ℕ
+cplOf d liquid = judged (demand (liquidOk liquid) 5) (cplAt d liquid)
 
 -- a number as a combined factor, where a word holds it
 unfoldable pub held : ℕ → Combined
@@ -57,7 +48,7 @@ held n = cond (ltb n (2 ^ 64)) (Held n) TooLarge
 
 -- the combined factor to d places, of up to four factors
 unfoldable pub combinedOf : ℕ → List ℕ → Combined
-combinedOf d fs = cond (leb (length fs) 4) (held (rounded d (combined d fs))) TooMany
+combinedOf d fs = cond (leb (length fs) 4) (held (combinedAt d fs)) TooMany
 
 -- a combined factor's value, and 0 where there is none
 abbrev pub combinedOrZero : Combined → ℕ

@@ -5,8 +5,10 @@ ghost use Prim.Native.Nat.{_*_, _≤_, _<_, _^_};
 ghost use lib.ListN.{length, getD};
 ghost use Rattle.exact.specs.Rounding.{rounded, _over_};
 ghost use Rattle.factors.specs.Metal.{coefficientOf, metalOk, metalBy};
+ghost use Rattle.factors.specs.Prover.{pipeOk, proverOk};
+ghost use Rattle.factors.specs.Liquid.{liquidOk};
 ghost use Rattle.factors.specs.Places.{digits};
-ghost use Rattle.factors.specs.Answers.{told, valueOrZero, pipeOk, ctsOf, cpsOf, cplOf, heldBy, combinedOf, combinedOrZero};
+ghost use Rattle.factors.specs.Answers.{told, valueOrZero, ctsOf, cpsOf, cplOf, combinedOf, combinedOrZero};
 use exact::Quotient;
 use refusals::Refusal;
 
@@ -33,6 +35,13 @@ pub struct Prover {
     pub metal: Metal,
     pub pipe: Pipe,
     pub base: u32,
+}
+
+// A liquid at the prover, at the meter or on a ticket: its pressure P in psi gage and its
+// compressibility F in 10^-8 per psi.
+pub struct Liquid {
+    pub pressure: u16,
+    pub compressibility: u16,
 }
 
 // Decimal places of a factor: four for proving and tickets, six for water draw.
@@ -71,7 +80,7 @@ pub fn coefficient(metal: Metal) -> u16
 pub fn is_metal(metal: Metal) -> bool
     ensures { λ r. ⌜ r ≡ metalOk metal ⌝ }
 {
-    ranges::is_within(coefficient(metal) as u64, 100, 400)
+    ranges::is_coefficient(coefficient(metal) as u64)
 }
 
 // The metal that a caller's two numbers name: a code and a certified coefficient, 0 where there is none.
@@ -97,9 +106,25 @@ pub fn choose_metal(code: u8, certified: u16) -> Metal
 pub fn is_pipe(pipe: Pipe) -> bool
     ensures { λ r. ⌜ r ≡ pipeOk pipe ⌝ }
 {
-    ranges::is_within(pipe.diameter as u64, 1000, 60000)
-        & (ranges::is_within(pipe.wall as u64, 100, 3000)
-            & ranges::is_within(pipe.modulus as u64, 10000000, 40000000))
+    ranges::is_diameter(pipe.diameter as u64)
+        & (ranges::is_wall(pipe.wall as u64) & ranges::is_modulus(pipe.modulus as u64))
+}
+
+// The prover's settings are in range.
+pub fn is_prover(prover: Prover) -> bool
+    ensures { λ r. ⌜ r ≡ proverOk prover ⌝ }
+{
+    let metal = prover.metal;
+    let pipe = prover.pipe;
+    is_metal(metal) & (is_pipe(pipe) & ranges::is_volume(prover.base as u64))
+}
+
+// The liquid's pressure and compressibility are in range.
+pub fn is_liquid(liquid: Liquid) -> bool
+    ensures { λ r. ⌜ r ≡ liquidOk liquid ⌝ }
+{
+    ranges::is_pressure(liquid.pressure as u64)
+        & ranges::is_compressibility(liquid.compressibility as u64)
 }
 
 // One, at so many places: 10^places.
@@ -117,7 +142,7 @@ fn round(num: u64, den: u64, places: Places) -> Factor
     requires { ⌜ (0 < den) × (num ≤ 2 * den) ⌝ }
     ensures { λ r. ⌜ r ≡ Factor.Value (rounded (digits places) (num over den)) ⌝ }
 {
-    Factor::Value(exact::value_or_zero(exact::rounded_ratio(num, unit(places), den)) as u32)
+    Factor::Value(exact::round_or_zero(num, unit(places), den) as u32)
 }
 
 // The correction for the effect of temperature on steel, T in 0.1 °F.
@@ -125,7 +150,7 @@ pub fn cts(t: i16, metal: Metal, places: Places) -> Factor
     ensures { λ r. ⌜ told r ≡ ctsOf (digits places) metal t ⌝ }
 {
     if is_metal(metal) {
-        if ranges::is_within_signed(t, -200, 2000) {
+        if ranges::is_temperature(t) {
             let gc = coefficient(metal) as u64;
             // counted from -100.0 °F, so that no step is below zero
             let above = (t + 1000) as u64;
@@ -142,7 +167,7 @@ pub fn cps(p: u16, pipe: Pipe, places: Places) -> Factor
 {
     if is_pipe(pipe) {
         let pressure = p as u64;
-        if ranges::is_within(pressure, 0, 1500) {
+        if ranges::is_pressure(pressure) {
             let stiffness = pipe.modulus as u64 * pipe.wall as u64;
             return round(
                 stiffness + pressure * pipe.diameter as u64,
@@ -155,14 +180,13 @@ pub fn cps(p: u16, pipe: Pipe, places: Places) -> Factor
     Factor::Refused(Refusal::ProverSetting)
 }
 
-// The correction for the effect of pressure on liquid, P in psi gage and F in 10^-8 per psi.
-pub fn cpl(p: u16, f: u16, places: Places) -> Factor
-    ensures { λ r. ⌜ told r ≡ cplOf (digits places) f p ⌝ }
+// The correction for the effect of pressure on liquid.
+pub fn cpl(liquid: Liquid, places: Places) -> Factor
+    ensures { λ r. ⌜ told r ≡ cplOf (digits places) liquid ⌝ }
 {
-    let pressure = p as u64;
-    let compressibility = f as u64;
-    if ranges::is_within(pressure, 0, 1500) & ranges::is_within(compressibility, 0, 10000) {
-        return round(100000000, 100000000 - compressibility * pressure, places);
+    if is_liquid(liquid) {
+        let squeezed = liquid.compressibility as u64 * liquid.pressure as u64;
+        return round(100000000, 100000000 - squeezed, places);
     }
     Factor::Refused(Refusal::RecordField(0))
 }
@@ -205,17 +229,6 @@ fn units_above_one(places: Places, count: usize) -> u64
     }
 }
 
-// A quotient as the combined factor; no count of units is zero.
-fn hold(quotient: Quotient) -> Combined
-    ensures { λ r. ⌜ r ≡ heldBy quotient ⌝ }
-{
-    match quotient {
-        Quotient::Value(q) => Combined::Value(q),
-        Quotient::ZeroDivisor => Combined::TooLarge,
-        Quotient::TooLarge => Combined::TooLarge,
-    }
-}
-
 // The combined factor: the exact product of the rounded factors, then one rounding.
 pub fn combine(factors: &[u32], places: Places) -> Combined
     ensures { λ r. ⌜ r ≡ combinedOf (digits places) (now (factors .entry)) ⌝ }
@@ -229,7 +242,13 @@ pub fn combine(factors: &[u32], places: Places) -> Combined
     }
     let first = factor_at(factors, 0) * factor_at(factors, 1);
     let second = factor_at(factors, 2) * factor_at(factors, 3);
-    hold(exact::rounded_ratio(first, second, units_above_one(places, count)))
+    let quotient = exact::rounded_ratio(first, second, units_above_one(places, count));
+    match quotient {
+        Quotient::Value(value) => Combined::Value(value),
+        // no count of units is zero
+        Quotient::ZeroDivisor => Combined::TooLarge,
+        Quotient::TooLarge => Combined::TooLarge,
+    }
 }
 
 // The combined factor, and 0 where there is none: for a caller whose magnitudes rule that out.

@@ -8,7 +8,8 @@ use native.Mathlib.Omega.{arith}
 use lib.ListN.{length}
 use Rattle.exact.specs.Rounding.{roundedDiv}
 use Rattle.octets.specs.FirstToLast.{firstToLast, placeIf}
-use Rattle.group.specs.Mean.{sumOf, meanOf}
+use Rattle.group.specs.Mean.{meanOf}
+use Rattle.exact.specs.Words.{sumOf}
 use Rattle.group.specs.Repeatability.{smallest, largest, qualifies, groupAt, qualifiesAt, firstGroup}
 use Rattle.group.proofs.Bounds.{Among, AllAtLeast, AllAtMost}
 use Rattle.group.proofs.Groups.{qualifies-repeats, repeats-qualifies}

@@ -2,4 +2,5 @@ pub mod Gathering
 pub mod Bounds
 pub mod Means
 pub mod Groups
+pub mod Listed
 pub mod Figures

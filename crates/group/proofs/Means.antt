@@ -9,7 +9,8 @@ use Rattle.exact.proofs.Answers.{value-below}
 use Rattle.exact.proofs.Rounding.{Nearest, nearest, at-most, at-least}
 use Rattle.exact.specs.Rounding.{roundedDiv}
 use Rattle.exact.specs.Quotient.{quotientOf, valueOrZero}
-use Rattle.group.specs.Mean.{sumOf, meanOf}
+use Rattle.group.specs.Mean.{meanOf}
+use Rattle.exact.specs.Words.{sumOf}
 use Rattle.group.specs.Repeatability.{smallest, largest}
 use Rattle.group.proofs.Bounds.{AllAtLeast, AllAtMost, smallest-below, largest-above}
 

@@ -1,2 +1,3 @@
 pub mod Repeatability
 pub mod Mean
+pub mod Listed

@@ -6,6 +6,7 @@ use mathlib.Core.Option.{Option, none, some}
 use Prim.Native.Nat.{ℕ, _+_, _*_, _-_, min, max}
 use lib.Dec.{leb}
 use lib.ListN.{length, take, drop}
+use Rattle.refusals.specs.Told.{Told, done, refused}
 use Rattle.octets.specs.FirstToLast.{firstPlace}
 use Rattle.group.specs.declared.Group.{Group}
 use Rattle.group.specs.declared.Group.the-variants.{At, Nothing}
@@ -41,3 +42,8 @@ firstGroup limit n xs = firstPlace (qualifiesAt limit n xs) (length xs + 1 - n) 
 abbrev pub placeOf : Group → Option ℕ
 placeOf (At at) = some at
 placeOf Nothing = none
+
+-- 9: 'no qualifying group'; otherwise what follows from the place of its first value
+abbrev pub nineUnless : {A : Type 0} → Option ℕ → (ℕ → A) → Told A
+nineUnless none follows = refused 9 0
+nineUnless (some at) follows = done (follows at)

@@ -1,13 +1,10 @@
 // The repeatability test, the first qualifying group and the rounded mean (01, 'Proving' and 'Water
 // draw'), for groups of any size. Nothing is asked of the values: where a product or a sum passes
 // 64 bits, it is carried in two words.
-use exact::Wide;
 ghost use mathlib.Core.Path.{_≡_};
-ghost use Prim.Native.Nat.{_+_, _^_, _≤_, _<_, min, max};
-ghost use lib.Dec.{leb};
+ghost use Prim.Native.Nat.{_<_, min, max};
 ghost use lib.ListN.{length};
-ghost use Rattle.exact.specs.Words.{valueOf};
-ghost use Rattle.group.specs.Mean.{sumOf, meanOf};
+ghost use Rattle.group.specs.Mean.{meanOf};
 ghost use Rattle.group.specs.Repeatability.{smallest, largest, qualifies, firstGroup, placeOf};
 
 // The first qualifying group, by the place of its first value, from 0; or that there is none.
@@ -51,17 +48,6 @@ fn find_extremes(values: &[u64]) -> Extremes
     }
 }
 
-// a ≤ b, of numbers of two words.
-fn is_at_most(a: Wide, b: Wide) -> bool
-    ensures { λ r. ⌜ r ≡ leb (valueOf a) (valueOf b) ⌝ }
-{
-    if a.hi == b.hi {
-        a.lo <= b.lo
-    } else {
-        a.hi < b.hi
-    }
-}
-
 // The values lent, all of them, are a qualifying group; the limit is in 1 in 10,000.
 pub fn is_group(values: &[u64], limit: u64) -> bool
     ensures { λ r. ⌜ r ≡ qualifies limit (now (values .entry)) ⌝ }
@@ -72,7 +58,7 @@ pub fn is_group(values: &[u64], limit: u64) -> bool
     let ends = find_extremes(values);
     let spread = exact::product(ends.largest - ends.smallest, 10000);
     let allowed = exact::product(limit, ends.smallest);
-    is_at_most(spread, allowed)
+    exact::is_at_most(spread, allowed)
 }
 
 // The first `size` consecutive values that qualify.
@@ -97,41 +83,9 @@ pub fn first_group(values: &[u64], size: usize, limit: u64) -> Group
     Group::Nothing
 }
 
-// One value more. A caller adds at most 2^64 - 1 values, so that the upper word has room.
-fn add(sum: Wide, x: u64) -> Wide
-    requires { ⌜ sum .hi + 1 < 2 ^ 64 ⌝ }
-    ensures { λ r. ⌜ (valueOf r ≡ valueOf sum + x) × (r .hi ≤ sum .hi + 1) ⌝ }
-{
-    // what the lower word still holds
-    let room = 18446744073709551615 - sum.lo;
-    if x <= room {
-        Wide {
-            hi: sum.hi,
-            lo: sum.lo + x,
-        }
-    } else {
-        Wide {
-            hi: sum.hi + 1,
-            lo: x - room - 1,
-        }
-    }
-}
-
-fn add_up(values: &[u64]) -> Wide
-    ensures { λ r. ⌜ valueOf r ≡ sumOf (now (values .entry)) ⌝ }
-{
-    let mut sum = Wide { hi: 0, lo: 0 };
-    let mut i = 0;
-    while i < values.len() {
-        sum = add(sum, values[i]);
-        i += 1;
-    }
-    sum
-}
-
 // The mean of the values lent, rounded, halves up; 0 of no values.
 pub fn mean(values: &[u64]) -> u64
     ensures { λ r. ⌜ r ≡ meanOf (now (values .entry)) ⌝ }
 {
-    exact::value_or_zero(exact::rounded_quotient(add_up(values), values.len() as u64))
+    exact::value_or_zero(exact::rounded_quotient(exact::sum(values), values.len() as u64))
 }

@@ -13,7 +13,8 @@ use Rattle.ranges.specs.Table.{temperatureOk, drawProverOk, drawMeasureOk, pres
 use Rattle.exact.specs.Rounding.{roundedDiv, rounded}
 use Rattle.octets.specs.Octets.{numberAt, byteAt, wordAt, longAt, signedOf, signedAt, isZeroAt, zeroBetween, bytesOf}
 use Rattle.octets.specs.FirstToLast.{firstToLast, placeIf}
-use Rattle.group.specs.Mean.{sumOf, meanOf}
+use Rattle.group.specs.Mean.{meanOf}
+use Rattle.exact.specs.Words.{sumOf}
 use Rattle.group.specs.Repeatability.{smallest, largest, qualifies, groupAt, qualifiesAt, firstGroup}
 use Rattle.factors.specs.Metal.{metalOk}
 use Rattle.factors.specs.Fractions.{cts, cps, cpl, combined}

@@ -26,7 +26,8 @@ use Rattle.factors.specs.declared.Metal.{Metal}
 use Rattle.factors.specs.declared.Pipe.{Pipe}
 use Rattle.factors.specs.declared.Prover.{Prover}
 use Rattle.factors.proofs.Steel.{warm, parts, Loads, loads}
-use Rattle.group.specs.Mean.{sumOf, meanOf}
+use Rattle.group.specs.Mean.{meanOf}
+use Rattle.exact.specs.Words.{sumOf}
 use Rattle.run.specs.Record.{fieldsOk}
 use Rattle.run.specs.Figures.{indicated, steelCts, steelCps, liquidCpl, correctedBy, atProver, atMeter, figuresFrom, figuresOf}
 use Rattle.run.specs.Answers.{proverOk, figuresFault, workedOf}

@@ -14,7 +14,8 @@ use Rattle.factors.specs.Answers.{pipeOk}
 use Rattle.factors.specs.declared.Prover.{Prover}
 use Rattle.factors.specs.declared.Metal.the-variants.{MildCarbon}
 use Rattle.group.specs.Repeatability.{smallest, largest, qualifies, groupAt, qualifiesAt, firstGroup}
-use Rattle.group.specs.Mean.{sumOf, meanOf}
+use Rattle.group.specs.Mean.{meanOf}
+use Rattle.exact.specs.Words.{sumOf}
 use Rattle.report.specs.Record.{listOf}
 use Rattle.report.specs.Judged.{reportOf}
 use Rattle.run.specs.Record.{runAt, sideOk, fieldsOk, unnamedOk}

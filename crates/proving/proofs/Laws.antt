@@ -17,26 +17,7 @@ use Rattle.run.specs.Figures.{figuresOf}
 use Rattle.run.specs.Answers.{proverOk, workedOf, factorOnly}
 use Rattle.run.specs.declared.Figures.{Figures}
 use Rattle.proving.specs.Judging.{runFault}
-use Rattle.proving.specs.Job.{factorAt, listed}
-
--- a store at the next place keeps what was filled and adds its own
-pub filled : (xs : List ℕ) (i v : ℕ) (f : ℕ → ℕ) → i < length xs → ((j : ℕ) → j < i → getD xs j 0 ≡ f j) → v ≡ f i → (j : ℕ) → j < i + 1 → getD (set xs i v) j 0 ≡ f j
-filled xs i v f room before is j h =
-    by-cases (decLt j i)
-    (λ less. getD-set-other xs i j v 0 (λ same. omega arith) ∙ before j less)
-    (λ not-less. let same : j ≡ i = omega arith in ap (λ (m : ℕ). getD (set xs i v) m 0) same ∙ getD-set-same xs i v 0 room ∙ is ∙ ap f (sym same))
-
--- the list of values is what an array filled with them begins with
-pub listed-value : (f : ℕ → ℕ) (n i j : ℕ) → j < n → getD (listed f n i) j 0 ≡ f (i + j)
-unfolding listed
-listed-value f zero i j h = absurd (omega arith)
-listed-value f (suc n) i zero h = ap f (omega arith)
-listed-value f (suc n) i (suc j) h = listed-value f n (i + 1) j (omega arith) ∙ ap f (omega arith)
-
-pub listed-length : (f : ℕ → ℕ) (n i : ℕ) → length (listed f n i) ≡ n
-unfolding listed
-listed-length f zero i = refl
-listed-length f (suc n) i = ap suc (listed-length f n (i + 1))
+use Rattle.proving.specs.Job.{factorAt}
 
 -- a run whose settings, K and fields were judged answers with its own 7 or 8, or with its factor
 module _ (prover : Prover) (k : ℕ) (s : List ℕ) (i : ℕ) (p : proverOk prover ≡ true) (kok : kFactorOk k ≡ true) (fields : fieldsOk (runAt s (32 * i)) ≡ true) where

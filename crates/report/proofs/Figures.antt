@@ -9,7 +9,8 @@ use Rattle.octets.specs.Octets.{numberAt, byteAt, wordAt, longAt, isZeroAt, zer
 use Rattle.ranges.specs.Table.{runFactorOk, runsOk}
 use Rattle.refusals.specs.Told.{done, refused}
 use Rattle.report.specs.Judged.{factorsOk, firstOk, jobOk, reportOk, isReport, reportOf, writeOf, readOf, leftBy}
-use Rattle.group.specs.Mean.{sumOf, meanOf}
+use Rattle.group.specs.Mean.{meanOf}
+use Rattle.exact.specs.Words.{sumOf}
 use Rattle.report.specs.Record.{listOf, fieldsOf, bytesOfReport}
 use Rattle.report.specs.declared.Factors.{Factors}
 use Rattle.report.specs.declared.Report.{Report}

@@ -6,7 +6,9 @@ use borrow.Author.Needs.{needs}
 use Rattle.refusals.proofs.Laws.{judged-fine, judged-fault, demand-holds, demand-fails, orElse-next, orElse-first}
 use Rattle.ranges.specs.Table.{pressureOk}
 use Rattle.factors.specs.Fractions.{cps}
-use Rattle.factors.specs.Answers.{told, pipeOk, cpsOf}
+use Rattle.factors.specs.Prover.{pipeOk}
+use Rattle.factors.specs.Rounded.{cpsAt}
+use Rattle.factors.specs.Answers.{told, cpsOf}
 use Rattle.factors.proofs.Steel.{Loads, loads}
 use Rattle.factors.proofs.cps.Statement.{statement}
 use Rattle.factors.proofs.cps.Tie as tie
@@ -15,9 +17,8 @@ use Rattle.factors.proofs.cps.Tie as tie
 pipe-fits : (c : tie.Then1) → pipeOk (c .before .before .args .pipe) ≡ true
 pipe-fits c = sym (c .before .is-pipe .ensures) ∙ c .if1 .taken
 
-judges-pressure : (c : tie.After-is-within) → c .is-within .result ≡ pressureOk (c .before .before .before .args .p)
-unfolding pressureOk
-judges-pressure c = c .is-within .ensures
+judges-pressure : (c : tie.After-is-pressure) → c .is-pressure .result ≡ pressureOk (c .before .before .before .args .p)
+judges-pressure c = c .is-pressure .ensures
 
 pressure-fits : (c : tie.Then2) → pressureOk (c .before .before .before .before .args .p) ≡ true
 pressure-fits c = sym (judges-pressure (c .before)) ∙ c .if2 .taken
@@ -38,7 +39,7 @@ round-requires : tie.Need-round-requires
 round-requires c κs = omega (arith, at-round (c .before .before .before))
 
 returns : tie.Need-returns
-unfolding cpsOf cps
+unfolding cpsOf cpsAt cps
 returns c =
     let d = c .before .before .before .before in
     ap told (c .round .ensures) ∙ sym (judged-fine _ (orElse-next _ (demand-holds 3 (pipe-fits (d .before .before))) ∙ demand-holds 5 (pressure-fits d)))

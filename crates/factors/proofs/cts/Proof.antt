@@ -5,20 +5,20 @@ use Prim.Native.Nat.{ℕ, _+_, _*_, _-_, _≤_}
 use native.Mathlib.Nat.{le-refl, mul-le-mul}
 use native.Mathlib.Omega.{arith}
 use borrow.Author.Needs.{needs}
-use lib.IntN.{pos, negsuc, natAbs, _+ℤ_, _-ℤ_, _*ℤ_}
+use lib.IntN.{pos, natAbs, _+ℤ_, _-ℤ_, _*ℤ_}
 use mir.Syntax.{w16}
 use mir.Val.{toZ, ofZ}
 use mir.ValLaws.{toZ-ofZ}
 use Rattle.refusals.specs.Told.{done}
 use Rattle.exact.specs.Rounding.{rounded, _over_}
 use Rattle.refusals.proofs.Laws.{judged-fine, judged-fault, demand-holds, demand-fails, orElse-next, orElse-first}
-use Rattle.ranges.specs.Within.{withinSigned}
 use Rattle.ranges.specs.Table.{temperatureOk, coefficientOk}
 use Rattle.ranges.proofs.Laws.{within-high}
 use Rattle.ranges.proofs.Counted.{sum-fits, cast-is, cast-fits}
 use Rattle.factors.specs.Metal.{coefficientOf, metalOk}
 use Rattle.factors.specs.Places.{digits}
 use Rattle.factors.specs.Fractions.{cts}
+use Rattle.factors.specs.Rounded.{ctsAt}
 use Rattle.factors.specs.Answers.{told, ctsOf}
 use Rattle.factors.proofs.Steel.{Warm, warm, parts}
 use Rattle.factors.proofs.cts.Statement.{statement}
@@ -31,9 +31,8 @@ start c = c .before .before .before .before
 metal-fits : (c : tie.Then1) → metalOk (c .before .before .args .metal) ≡ true
 metal-fits c = sym (c .before .is-metal .ensures) ∙ c .if1 .taken
 
-judges-temperature : (c : tie.After-is-within-signed) → c .is-within-signed .result ≡ temperatureOk (c .before .before .before .args .t)
-unfolding temperatureOk
-judges-temperature c = let s = c .before .before .before in c .is-within-signed .ensures ∙ ap (withinSigned (negsuc 199) (pos 2000)) (toZ-ofZ w16 (s .args .t) (s .fits .t))
+judges-temperature : (c : tie.After-is-temperature) → c .is-temperature .result ≡ temperatureOk (c .before .before .before .args .t)
+judges-temperature c = let s = c .before .before .before in c .is-temperature .ensures ∙ ap temperatureOk (toZ-ofZ w16 (s .args .t) (s .fits .t))
 
 temperature-fits : (c : tie.Then2) → temperatureOk (start c .args .t) ≡ true
 temperature-fits c = sym (judges-temperature (c .before)) ∙ c .if2 .taken
@@ -96,7 +95,7 @@ round-requires : tie.Need-round-requires
 round-requires c κs = omega (arith, product c)
 
 returns : tie.Need-returns
-unfolding ctsOf cts
+unfolding ctsOf ctsAt cts
 returns c =
     ap told (c .round .ensures)
     ∙ ap (λ (num : ℕ). done (rounded (digits (start (c .before .before) .args .places)) (num over 100000000))) (numerator (c .before))

@@ -11,18 +11,16 @@ use Rattle.factors.proofs.Laws.{rounded-small, rounded-by-words}
 use Rattle.factors.proofs.round.Statement.{statement}
 use Rattle.factors.proofs.round.Tie as tie
 
-value : (c : tie.After-value-or-zero) → c .value-or-zero .result ≡ rounded (digits (c .before .before .before .args .places)) (c .before .before .before .args .num over c .before .before .before .args .den)
+value : (c : tie.After-round-or-zero) → c .round-or-zero .result ≡ rounded (digits (c .before .before .args .places)) (c .before .before .args .num over c .before .before .args .den)
 value c =
-    let a = c .before .before .before in
-    c .value-or-zero .ensures
-    ∙ ap valueOrZero (c .before .rounded-ratio .ensures ∙ ap (λ (u : ℕ). quotientOf (a .args .num * u) (a .args .den)) (c .before .before .unit .ensures))
-    ∙ rounded-by-words (a .args .places) (a .pre .0) (a .pre .1)
+    let a = c .before .before in
+    c .round-or-zero .ensures ∙ ap (λ (u : ℕ). valueOrZero (quotientOf (a .args .num * u) (a .args .den))) (c .before .unit .ensures) ∙ rounded-by-words (a .args .places) (a .pre .0) (a .pre .1)
 
-cast-t7 : tie.Need-cast-t7
-cast-t7 c = let a = c .before .before .before in omega (arith, value c, rounded-small (a .args .places) (a .pre .0) (a .pre .1))
+cast-t6 : tie.Need-cast-t6
+cast-t6 c = let a = c .before .before in omega (arith, value c, rounded-small (a .args .places) (a .pre .0) (a .pre .1))
 
 returns : tie.Need-returns
 returns c = ap Value (value c)
 
 pub round-spec : {M : Type 1} → statement M
-round-spec = tie.close (tie.spec (search needs) (search needs) (search needs) cast-t7 returns)
+round-spec = tie.close (tie.spec (search needs) (search needs) cast-t6 returns)

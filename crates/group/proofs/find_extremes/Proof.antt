@@ -6,7 +6,8 @@ use native.Mathlib.Omega.{arith}
 use borrow.Author.Needs.{needs}
 use lib.ListN.{length, drop}
 use Rattle.group.specs.Repeatability.{smallest, largest}
-use Rattle.group.proofs.Gathering.{smallest-gathered, largest-gathered, begun, next, finished}
+use Rattle.exact.proofs.Gathering.{begun, next, finished}
+use Rattle.group.proofs.Gathering.{smallest-gathered, largest-gathered}
 use Rattle.group.proofs.find_extremes.Statement.{statement}
 use Rattle.group.proofs.find_extremes.Tie as tie
 

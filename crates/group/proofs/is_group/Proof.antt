@@ -1,13 +1,13 @@
 -- `group::is_group` meets its contract: the two products, each of two words, compare as the test does.
 use mathlib.Core.Path.{_≡_, sym, _∙_, ap}
 use mathlib.Core.List.{List}
-use Prim.Native.Nat.{ℕ, _*_, _-_, _^_, _<_}
-use native.Mathlib.Nat.{div-add-mod'}
+use Prim.Native.Nat.{ℕ, _*_, _-_, _<_}
 use native.Mathlib.Omega.{arith}
 use lib.Dec.{leb}
 use lib.ListN.{length}
 use Rattle.exact.specs.Words.{valueOf, wideOf}
 use Rattle.exact.specs.declared.Wide.{Wide}
+use Rattle.exact.proofs.Words.{value-wide}
 use Rattle.group.specs.Repeatability.{smallest, largest, qualifies}
 use Rattle.group.proofs.Bounds.{smallest-at-most-largest}
 use Rattle.group.proofs.Groups.{qualifies-none, qualifies-some}
@@ -20,11 +20,6 @@ returns c = sym (qualifies-none (c .before .before .args .limit) (c .before .bef
 
 sub-product : tie.Need-sub-product
 sub-product c = omega (arith, c .before .find-extremes .ensures, smallest-at-most-largest (c .before .before .before .before .args .values .now))
-
--- two words stand for the number that they were made of
-value-wide : (n : ℕ) → valueOf (wideOf n) ≡ n
-unfolding valueOf wideOf
-value-wide n = div-add-mod' n (2 ^ 64)
 
 -- the two products, in two words each, compare as the test does
 compared : (limit : ℕ) (xs : List ℕ) (low high : ℕ) (spread allowed : Wide) → 0 < length xs → low ≡ smallest xs → high ≡ largest xs → spread ≡ wideOf ((high - low) * 10000) → allowed ≡ wideOf (limit * low) → leb (valueOf spread) (valueOf allowed) ≡ qualifies limit xs

@@ -3,6 +3,8 @@ use mathlib.Core.Path.{_∙_, ap}
 use Prim.Native.Nat.{ℕ}
 use native.Mathlib.Omega.{arith}
 use lib.ListN.{length}
+use Rattle.exact.specs.Words.{valueOf}
+use Rattle.exact.proofs.Words.{value-wide}
 use Rattle.exact.specs.Quotient.{quotientOf, valueOrZero}
 use Rattle.group.proofs.Means.{mean-value}
 use borrow.Author.Needs.{needs}
@@ -12,11 +14,11 @@ use Rattle.group.proofs.mean.Tie as tie
 returns : tie.Need-returns
 returns c =
     let q = c .before in
-    let sum = q .before .add-up in
+    let sum = q .before .sum in
     let known = q .before .before in
     let xs = known .before .args .values .now in
     c .value-or-zero .ensures
-    ∙ ap valueOrZero (q .rounded-quotient .ensures ∙ ap (λ (n : ℕ). quotientOf n (length xs)) (sum .ensures))
+    ∙ ap valueOrZero (q .rounded-quotient .ensures ∙ ap (λ (n : ℕ). quotientOf n (length xs)) (ap valueOf (sum .ensures) ∙ value-wide _))
     ∙ mean-value xs (λ k h. omega (arith, known .shared-slice-known .given k))
 
 pub mean-spec : {M : Type 1} → statement M

@@ -1,9 +1,9 @@
--- `group::add` meets its contract: the value fits the lower word's room, or fills it and carries one.
+-- `exact::add` meets its contract: the value fits the lower word's room, or fills it and carries one.
 use native.Mathlib.Omega.{arith}
 use borrow.Author.Needs.{needs}
 use Rattle.exact.specs.Words.{valueOf}
-use Rattle.group.proofs.add.Statement.{statement}
-use Rattle.group.proofs.add.Tie as tie
+use Rattle.exact.proofs.add.Statement.{statement}
+use Rattle.exact.proofs.add.Tie as tie
 
 returns : tie.Need-returns
 unfolding valueOf

@@ -1,4 +1,4 @@
--- `group::is_at_most` meets its contract: the upper words decide, and the lower ones where those are equal.
+-- `exact::is_at_most` meets its contract: the upper words decide, and the lower ones where those are equal.
 use mathlib.Core.Path.{_≡_, sym, _∙_}
 use mathlib.Core.Logic.{by-cases}
 use Prim.Native.Nat.{ℕ, _+_, _*_, _^_, _<_}
@@ -6,9 +6,9 @@ use native.Mathlib.Decide.{decLt, decLe}
 use native.Mathlib.Omega.{arith}
 use borrow.Author.Tests.{le-leb, lt-leb, lt-ltb, le-ltb}
 use lib.Dec.{leb, ltb}
 use Rattle.exact.specs.Words.{valueOf}
-use Rattle.group.proofs.is_at_most.Statement.{statement}
-use Rattle.group.proofs.is_at_most.Tie as tie
+use Rattle.exact.proofs.is_at_most.Statement.{statement}
+use Rattle.exact.proofs.is_at_most.Tie as tie
 
 module _ (h h′ l l′ : ℕ) where
   lower : h ≡ h′ → leb l l′ ≡ leb (h * 2 ^ 64 + l) (h′ * 2 ^ 64 + l′)
