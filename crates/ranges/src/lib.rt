@@ -5,14 +5,14 @@ ghost use Rattle.ranges.specs.Within.{within, withinSigned};
 ghost use Rattle.ranges.specs.Table.{temperatureOk, drawProverOk, drawMeasureOk, pressureOk, coefficientOk, modulusOk, diameterOk, wallOk, compressibilityOk, ctlOk, runFactorOk, ctdwOk, volumeOk, pulsesOk, kFactorOk, limitOk, runsOk, passesOk, fillsOk, certifiedOk, scaleOk, readingOk, meterFactorOk, sedimentOk};
 
 // x is lo to hi.
-pub fn is_within(x: u64, lo: u64, hi: u64) -> bool
+fn is_within(x: u64, lo: u64, hi: u64) -> bool
     ensures { λ r. ⌜ r ≡ within lo hi x ⌝ }
 {
     lo <= x && x <= hi
 }
 
 // x is least to most, for the quantities that may be below zero.
-pub fn is_within_signed(x: i16, least: i16, most: i16) -> bool
+fn is_within_signed(x: i16, least: i16, most: i16) -> bool
     ensures { λ r. ⌜ r ≡ withinSigned least most x ⌝ }
 {
     least <= x && x <= most
