@@ -3,4 +3,5 @@ pub mod Bounds
 pub mod Means
 pub mod Groups
 pub mod Listed
+pub mod Spreads
 pub mod Figures

@@ -1,3 +1,4 @@
 pub mod Repeatability
 pub mod Mean
 pub mod Listed
+pub mod Spread

@@ -1,16 +1,31 @@
 // The repeatability test, the first qualifying group and the rounded mean (01, 'Proving' and 'Water
 // draw'), for groups of any size. Nothing is asked of the values: where a product or a sum passes
 // 64 bits, it is carried in two words.
+use exact::Quotient;
+use refusals::Refusal;
 ghost use mathlib.Core.Path.{_≡_};
 ghost use Prim.Native.Nat.{_<_, min, max};
 ghost use lib.ListN.{length};
 ghost use Rattle.group.specs.Mean.{meanOf};
+ghost use Rattle.group.specs.Spread.{toldSpread, spreadOf};
 ghost use Rattle.group.specs.Repeatability.{smallest, largest, qualifies, firstGroup, placeOf};
 
 // The first qualifying group, by the place of its first value, from 0; or that there is none.
 pub enum Group {
     At(usize),
     Nothing,
+}
+
+// The smallest and the largest value, and their spread in 0.001 % of the smallest.
+pub struct Extent {
+    pub smallest: u64,
+    pub largest: u64,
+    pub spread: u64,
+}
+
+pub enum Spread {
+    Worked(Extent),
+    Refused(Refusal),
 }
 
 struct Extremes {
@@ -88,4 +103,25 @@ pub fn mean(values: &[u64]) -> u64
     ensures { λ r. ⌜ r ≡ meanOf (now (values .entry)) ⌝ }
 {
     exact::value_or_zero(exact::rounded_quotient(exact::sum(values), values.len() as u64))
+}
+
+// The spread of the values lent, as people work it out; 9 where there is none to tell: no values, a
+// smallest of 0, or a spread of more than 64 bits.
+pub fn find_spread(values: &[u64]) -> Spread
+    ensures { λ r. ⌜ toldSpread r ≡ spreadOf (now (values .entry)) ⌝ }
+{
+    if values.len() == 0 {
+        return Spread::Refused(Refusal::NoGroup);
+    }
+    let ends = find_extremes(values);
+    let quotient = exact::rounded_ratio(ends.largest - ends.smallest, 100000, ends.smallest);
+    match quotient {
+        Quotient::Value(spread) => Spread::Worked(Extent {
+            smallest: ends.smallest,
+            largest: ends.largest,
+            spread,
+        }),
+        Quotient::ZeroDivisor => Spread::Refused(Refusal::NoGroup),
+        Quotient::TooLarge => Spread::Refused(Refusal::NoGroup),
+    }
 }
