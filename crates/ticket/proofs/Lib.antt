@@ -1,4 +1,2 @@
 pub mod Laws
 pub mod Magnitudes
-pub mod OneOutcome
-mod Figures

@@ -1,21 +1,17 @@
 -- 01, 'Ticket': the formulas, each on the rounded figures before it; volumes in 0.01 barrel, factors in 0.0001.
 use mathlib.Core.List.{[], _∷_}
 use Prim.Native.Nat.{ℕ, _-_, _*_}
-use Rattle.exact.specs.Rounding.{rounded, roundedDiv}
-use Rattle.factors.specs.Fractions.{combined, cpl}
+use Rattle.exact.specs.Rounding.{roundedDiv}
+use Rattle.factors.specs.Rounded.{cplAt, combinedAt}
 use Rattle.ticket.specs.declared.Ticket.{Ticket}
 
 -- Indicated = closing - opening
 unfoldable pub indicated : Ticket → ℕ
 indicated t = t .closing - t .opening
 
--- CPL (from the ticket's P and F), 4 places
-unfoldable pub cplFrom : Ticket → ℕ
-cplFrom t = rounded 4 (cpl (t .compressibility) (t .pressure))
-
--- Factor = meter factor × CTL × CPL, 4 places
+-- Factor = meter factor × CTL × CPL (from the ticket's P and F), 4 places
 unfoldable pub factor : Ticket → ℕ
-factor t = rounded 4 (combined 4 (t .mf ∷ t .ctl ∷ cplFrom t ∷ []))
+factor t = combinedAt 4 (t .mf ∷ t .ctl ∷ cplAt 4 (t .liquid) ∷ [])
 
 -- Gross standard = indicated × factor, to 0.01
 unfoldable pub gross : Ticket → ℕ

@@ -4,12 +4,12 @@ ghost use mathlib.Core.Path.{_≡_};
 ghost use mathlib.Core.Bool.{true};
 ghost use Prim.Native.Nat.{_*_, _≤_, _<_};
 ghost use Rattle.exact.specs.Rounding.{roundedDiv};
-ghost use Rattle.ticket.specs.Ranges.{fieldsOk, suppliedOk};
-ghost use Rattle.ticket.specs.Formulas.{cplFrom};
+ghost use Rattle.ticket.specs.Ranges.{ticketOk};
 ghost use Rattle.ticket.specs.Answers.{told, volumes, ticketOf};
-use factors::Factor;
+use factors::Liquid;
 use factors::Places;
 use refusals::Refusal;
+use refusals::Verdict;
 
 pub struct Ticket {
     // the meter's readings, 0.01 barrel
@@ -18,9 +18,8 @@ pub struct Ticket {
     // the supplied meter factor (MF) and CTL, 0.0001
     pub mf: u16,
     pub ctl: u16,
-    // P, psi gage, and F, 10^-8 per psi
-    pub pressure: u16,
-    pub compressibility: u16,
+    // what CPL is made from
+    pub liquid: Liquid,
     // sediment and water S, 0.001 %
     pub sediment: u32,
 }
@@ -33,20 +32,21 @@ pub struct Volumes {
     pub net: u32,
 }
 
-pub enum Outcome {
+pub enum Measured {
     Worked(Volumes),
     Refused(Refusal),
 }
 
-// Every field but P and F is within its range: those two are CPL's to judge.
-fn fields_fit(ticket: Ticket) -> bool
-    ensures { λ r. ⌜ r ≡ suppliedOk ticket ⌝ }
+// Every field is within its range.
+fn is_ticket(ticket: Ticket) -> bool
+    ensures { λ r. ⌜ r ≡ ticketOk ticket ⌝ }
 {
-    ranges::is_within(ticket.opening as u64, 0, 99999999)
-        & (ranges::is_within(ticket.closing as u64, 0, 99999999)
-            & (ranges::is_within(ticket.mf as u64, 8000, 12000)
-                & (ranges::is_within(ticket.ctl as u64, 5000, 15000)
-                    & ranges::is_within(ticket.sediment as u64, 0, 100000))))
+    let liquid = ticket.liquid;
+    ranges::is_reading(ticket.opening as u64)
+        & (ranges::is_reading(ticket.closing as u64)
+            & (ranges::is_meter_factor(ticket.mf as u64)
+                & (ranges::is_ctl(ticket.ctl as u64)
+                    & (factors::is_liquid(liquid) & ranges::is_sediment(ticket.sediment as u64)))))
 }
 
 // a * b / d to the nearest whole number, halves up, where 32 bits hold it.
@@ -54,14 +54,16 @@ fn round(a: u64, b: u64, d: u64) -> u32
     requires { ⌜ (0 < d) × (a * b ≤ 4294967295 * d) ⌝ }
     ensures { λ r. ⌜ r ≡ roundedDiv (a * b) d ⌝ }
 {
-    exact::value_or_zero(exact::rounded_ratio(a, b, d)) as u32
+    exact::round_or_zero(a, b, d) as u32
 }
 
-// The volumes of a ticket that is in order, from its CPL. Each starts from the rounded one before it.
-fn correct(ticket: Ticket, cpl: u32) -> Volumes
-    requires { ⌜ (fieldsOk ticket ≡ true) × ((ticket .opening ≤ ticket .closing) × (cpl ≡ cplFrom ticket)) ⌝ }
+// The volumes of a ticket that is in order. Each starts from the rounded one before it.
+fn correct(ticket: Ticket) -> Volumes
+    requires { ⌜ (ticketOk ticket ≡ true) × (ticket .opening ≤ ticket .closing) ⌝ }
     ensures { λ r. ⌜ r ≡ volumes ticket ⌝ }
 {
+    let liquid = ticket.liquid;
+    let cpl = factors::value_or_zero(factors::cpl(liquid, Places::Four));
     let indicated = (ticket.closing - ticket.opening) as u64;
     let supplied = ticket.mf as u64 * ticket.ctl as u64;
     let kept = 100000 - ticket.sediment as u64;
@@ -72,19 +74,16 @@ fn correct(ticket: Ticket, cpl: u32) -> Volumes
 }
 
 // The ticket worked out: any field out of range is 10, then closing below opening 11.
-pub fn work_out(ticket: Ticket) -> Outcome
+pub fn work_out(ticket: Ticket) -> Measured
     ensures { λ r. ⌜ told r ≡ ticketOf ticket ⌝ }
 {
-    let Factor::Value(cpl) = factors::cpl(ticket.pressure, ticket.compressibility, Places::Four)
-    else {
-        // P or F is out of range
-        return Outcome::Refused(Refusal::TicketField);
-    };
-    if fields_fit(ticket) {
-        if ticket.opening <= ticket.closing {
-            return Outcome::Worked(correct(ticket, cpl));
-        }
-        return Outcome::Refused(Refusal::ClosingBelowOpening);
+    let fields = refusals::demand(is_ticket(ticket), Refusal::TicketField);
+    let order = refusals::demand(
+        ticket.opening <= ticket.closing,
+        Refusal::ClosingBelowOpening,
+    );
+    match refusals::or_else(fields, order) {
+        Verdict::Fine => Measured::Worked(correct(ticket)),
+        Verdict::Refused(refusal) => Measured::Refused(refusal),
     }
-    Outcome::Refused(Refusal::TicketField)
 }

@@ -1,45 +1,51 @@
--- `ticket::work_out` meets its contract: CPL judges P and F, `fields_fit` the rest, and what is left is the paper's order.
+-- `ticket::work_out` meets its contract: the code's verdict is the paper's, and each of its cases is told so.
 use mathlib.Core.Path.{_≡_, ap, sym, _∙_}
-use mathlib.Core.Bool.{true, false}
-use native.Mathlib.Omega.{arith}
+use mathlib.Core.Bool.{Bool}
 use borrow.Author.Needs.{needs}
-use Rattle.refusals.specs.Told.{done}
-use Rattle.factors.specs.Answers.{cplOf, told as told-factor}
-use Rattle.ticket.specs.Ranges.{fieldsOk}
-use Rattle.ticket.proofs.Laws.{field-refused, order-refused, worked-out, liquid-fits, liquid-value, liquid-refused, supplied-refused, fields-fit}
+use borrow.Author.Tests.{leb-true}
+use lib.Dec.{leb}
+use Rattle.refusals.specs.Told.{Fault, fine, done, demand, orElse}
+use Rattle.refusals.specs.Verdict.{faultOf}
+use Rattle.refusals.proofs.Laws.{judged-fine, judged-fault, demand-was, orElse-fine-first, orElse-fine-next}
+use Rattle.ticket.specs.Ranges.{ticketOk}
+use Rattle.ticket.specs.Answers.{ticketOf}
+use Rattle.ticket.specs.declared.Ticket.{Ticket}
 use Rattle.ticket.proofs.work_out.Statement.{statement}
 use Rattle.ticket.proofs.work_out.Tie as tie
 
-enum-told : tie.Need-enum-told
-enum-told c = search needs
+abbrev fields : Ticket → Fault
+fields t = demand (ticketOk t) 10
 
--- CPL's value, where it has one
-cpl-told : (c : tie.After-known-told) → done (c .before .cpl2 .given .0 .0) ≡ cplOf 4 (c .before .before .before .before .args .ticket .compressibility) (c .before .before .before .before .args .ticket .pressure)
-cpl-told c = sym (ap told-factor (c .before .cpl2 .given .1)) ∙ c .before .before .before .cpl .ensures
+abbrev order : Ticket → Fault
+order t = demand (leb (t .opening) (t .closing)) 11
 
-cpl-refused : (c : tie.After-enum-told) → fieldsOk (c .before .before .before .args .ticket) ≡ false
-cpl-refused c = liquid-refused _ (sym (ap told-factor (c .enum-told .given .1)) ∙ c .before .before .cpl .ensures)
+abbrev ticket : tie.After-or-else → Ticket
+ticket c = c .before .before .before .before .before .args .ticket
 
-returns : tie.Need-returns
-returns c = sym (field-refused _ (cpl-refused c))
+judged-by : (c : tie.After-or-else) → faultOf (c .or-else .result) ≡ orElse (fields (ticket c)) (order (ticket c))
+judged-by c =
+    let first = c .before .before .before in
+    c .or-else .ensures ∙ (λ i. orElse ((first .demand .ensures ∙ ap (λ (ok : Bool). demand ok 10) (first .before .is-ticket .ensures)) i) (c .before .demand2 .ensures i))
 
-abbrev start : tie.After-fields-fit → tie.Start
-start c = c .before .before .before .before .before
-
-fits : (c : tie.Then1) → fieldsOk (start (c .before) .args .ticket) ≡ true
-fits c = fields-fit _ (sym (c .before .fields-fit .ensures) ∙ c .if1 .taken) (liquid-fits _ (cpl-told (c .before .before)))
+in-order : (c : tie.After-enum-told) → orElse (fields (ticket (c .before .before))) (order (ticket (c .before .before))) ≡ fine
+in-order c = sym (judged-by (c .before .before)) ∙ ap faultOf (c .enum-told .given .1)
 
 correct-requires : tie.Need-correct-requires
-correct-requires c κs = (fits (c .before .before), (omega arith, liquid-value _ (cpl-told (c .before .before .before .before))))
+correct-requires c κs =
+    let t = ticket (c .before .before) in (
+      demand-was (ticketOk t) 10 (orElse-fine-first (fields t) (order t) (in-order c)),
+      leb-true (t .opening) (t .closing) (demand-was (leb (t .opening) (t .closing)) 11 (orElse-fine-next (fields t) (order t) (in-order c))),
+    )
+
+returns : tie.Need-returns
+unfolding ticketOf
+returns c = ap done (c .correct .ensures) ∙ sym (judged-fine _ (in-order (c .before)))
 
 returns-2 : tie.Need-returns-2
-returns-2 c = ap done (c .correct .ensures) ∙ sym (worked-out _ (fits (c .before .before .before)) (omega arith))
-
-returns-3 : tie.Need-returns-3
-returns-3 c = sym (order-refused _ (fits (c .before .before)) (omega arith))
-
-returns-4 : tie.Need-returns-4
-returns-4 c = sym (field-refused _ (supplied-refused _ (sym (c .before .fields-fit .ensures) ∙ c .if1 .left)))
+unfolding ticketOf
+returns-2 c = sym (judged-fault _ (sym (judged-by (c .before .before .before)) ∙ ap faultOf (c .before .refusal .given .1)))
 
 pub work-out-spec : {M : Type 1} → statement M
-work-out-spec = tie.close (tie.spec (search needs) (search needs) enum-told returns (search needs) correct-requires returns-2 returns-3 returns-4)
+work-out-spec =
+    tie.close
+    (tie.spec (search needs) (search needs) (search needs) (search needs) (λ c. search needs) correct-requires (search needs) returns returns-2)
