@@ -7,19 +7,12 @@ use native.Mathlib.Omega.{arith}
 use borrow.Author.Tests.{leb-true, le-leb}
 use lib.Dec.{leb, eqb}
 use lib.IntN.{ℤ, pos, negsuc, natAbs, _+ℤ_}
-use mir.Syntax.{w16}
-use mir.Val.{toZ, ofZ}
 use Rattle.ranges.specs.Within.{withinSigned}
-use Rattle.ranges.specs.Table.{temperatureOk, drawProverOk, drawMeasureOk, coefficientOk, ctdwOk, pressureOk}
+use Rattle.ranges.specs.Table.{temperatureOk, drawProverOk, drawMeasureOk, coefficientOk, ctdwOk, pressureOk, certifiedOk, scaleOk}
 use Rattle.ranges.proofs.Laws.{both-first, both-second, within-low, within-high}
-use Rattle.ranges.proofs.Counted.{below, passed-on}
-use Rattle.draw.specs.Fill.{fillAt, certifiedOk, scaleOk, fieldsOk, follows, ruleOk}
+use Rattle.ranges.proofs.Counted.{below}
+use Rattle.draw.specs.Fill.{fillAt, fillOk, follows, ruleOk}
 use Rattle.draw.specs.declared.FillRecord.{FillRecord}
-
--- a number in a signed range is passed on by the machine as it is
-pub within-passed-on : (a b : ℕ) (z : ℤ) → a ≤ 32767 → b ≤ 32767 → withinSigned (negsuc a) (pos b) z ≡ true → toZ w16 (ofZ w16 z) ≡ z
-within-passed-on a b (pos n) ha hb ok = let h : n ≤ b = leb-true n b ok in passed-on (pos n) (omega arith)
-within-passed-on a b (negsuc k) ha hb ok = let h : k ≤ a = leb-true k a (sym (and-true (leb k a)) ∙ ok) in passed-on (negsuc k) (omega arith)
 
 -- a draw's temperature is a prover's
 draw-temperature : (lo : ℕ) (z : ℤ) → withinSigned (pos lo) (pos 1050) z ≡ true → temperatureOk z ≡ true
@@ -37,8 +30,8 @@ pub record Fields (fill : FillRecord) : Type 0 where
   pub ctdw : fill .ctdw ≤ 1020000
   pub pressure : pressureOk (fill .pressure) ≡ true
 
-pub fields : (fill : FillRecord) → fieldsOk fill ≡ true → Fields fill
-unfolding fieldsOk certifiedOk drawProverOk drawMeasureOk ctdwOk
+pub fields : (fill : FillRecord) → fillOk fill ≡ true → Fields fill
+unfolding fillOk certifiedOk drawProverOk drawMeasureOk ctdwOk
 fields fill ok =
     let from2 = both-second (certifiedOk (fill .certified)) _ ok in
     let from3 = both-second (scaleOk (fill .scale)) _ from2 in

@@ -4,5 +4,4 @@ pub mod Sound
 pub mod Volumes
 pub mod Outcome
 pub mod Rule
-pub mod Figures
 pub mod Sums

@@ -5,63 +5,62 @@ use Prim.Native.Nat.{ℕ, _*_, _≤_, _<_}
 use native.Mathlib.Nat.{mul-le-mul}
 use native.Mathlib.Omega.{arith}
 use lib.IntN.{ℤ}
+use lib.Signed.{mag}
 use mir.Syntax.{w16}
 use mir.Val.{toZ, ofZ}
 use Rattle.ranges.specs.Table.{temperatureOk, coefficientOk}
 use Rattle.ranges.proofs.Laws.{within-high}
+use Rattle.ranges.proofs.Counted.{passed-on}
 use Rattle.exact.specs.Rounding.{rounded}
 use Rattle.exact.specs.Quotient.{quotientOf, valueOrZero}
 use Rattle.exact.proofs.Rounding.{at-most, at-least}
 use Rattle.exact.proofs.Answers.{value-below}
 use Rattle.factors.specs.Metal.{coefficientOf, metalOk}
 use Rattle.factors.specs.Fractions.{cts}
+use Rattle.factors.specs.Rounded.{ctsAt}
+use Rattle.factors.specs.Answers.{told, ctsOf, valueOrZero as factorOrZero}
 use Rattle.factors.specs.declared.Metal.{Metal}
 use Rattle.factors.specs.declared.Metal.the-variants.{Certified}
-use Rattle.factors.specs.Answers.{told, ctsOf, valueOrZero as factorOrZero}
 use Rattle.factors.specs.declared.Factor.{Factor}
 use Rattle.factors.specs.declared.Places.the-variants.{Six}
 use Rattle.factors.proofs.Steel.{warm, parts}
 use Rattle.factors.proofs.Values.{cts-small, cts-value}
-use Rattle.draw.specs.Fill.{fieldsOk}
+use Rattle.draw.specs.Fill.{fillOk}
 use Rattle.draw.specs.Drawn.{adjusted, measureCts, proverCts, ccts, drawn}
 use Rattle.draw.specs.declared.FillRecord.{FillRecord}
-use Rattle.draw.proofs.Fields.{Fields, fields, Scale, scaled, within-passed-on}
+use Rattle.draw.proofs.Fields.{Fields, fields, Scale, scaled}
 
 -- CTS is nowhere near zero
-cts-least : (metal : Metal) (t : ℤ) → metalOk metal ≡ true → temperatureOk t ≡ true → 500000 ≤ rounded 6 (cts t (coefficientOf metal))
-unfolding cts metalOk coefficientOk rounded
+cts-least : (metal : Metal) (t : ℤ) → metalOk metal ≡ true → temperatureOk t ≡ true → 500000 ≤ ctsAt 6 metal t
+unfolding ctsAt cts metalOk coefficientOk rounded
 cts-least metal t m ok =
     let gc : coefficientOf metal ≤ 400 = within-high 100 400 _ m in
     at-least _ 500000 (omega arith) (omega (arith, parts _ gc (warm t ok)))
 
 -- CTS as the code has it: the temperature passed on as a machine's signed number
-pub cts-at : (f : Factor) (metal : Metal) (t : ℤ) {x : ℕ} → x ≡ factorOrZero f → told f ≡ ctsOf 6 metal (toZ w16 (ofZ w16 t)) → metalOk metal ≡ true → temperatureOk t ≡ true → x ≡ rounded 6 (cts t (coefficientOf metal))
-unfolding temperatureOk
-cts-at f metal t is answer m ok = is ∙ cts-value f Six metal t (answer ∙ ap (ctsOf 6 metal) (within-passed-on 199 2000 t (omega arith) (omega arith) ok)) m ok
+pub cts-at : (f : Factor) (metal : Metal) (t : ℤ) {x : ℕ} → mag t < 32768 → x ≡ factorOrZero f → told f ≡ ctsOf 6 metal (toZ w16 (ofZ w16 t)) → metalOk metal ≡ true → temperatureOk t ≡ true → x ≡ ctsAt 6 metal t
+cts-at f metal t fits is answer m ok = is ∙ cts-value f Six metal t (answer ∙ ap (ctsOf 6 metal) (passed-on t fits)) m ok
 
-module _ (metal : Metal) (fill : FillRecord) (m : metalOk metal ≡ true) (ok : fieldsOk fill ≡ true) where
-  pub adjusted-most : adjusted fill ≤ 100010000
+module _ (metal : Metal) (fill : FillRecord) (m : metalOk metal ≡ true) (ok : fillOk fill ≡ true) where
+  adjusted-most : adjusted fill ≤ 100010000
   unfolding adjusted
   adjusted-most = let f : Fields fill = fields fill ok in let s : Scale (fill .certified) (fill .scale) = scaled (fill .certified) (fill .scale) (f .certified-least) (f .scale) in omega arith
 
   pub expanded-most : adjusted fill * fill .ctdw ≤ 102010200000000
   expanded-most = mul-le-mul {n₂ = 100010000} {m₂ = 1020000} adjusted-most (fields fill ok .ctdw)
 
-  measure-most : measureCts fill ≤ 2000000
-  unfolding measureCts metalOk
-  measure-most = cts-small Six (Certified (fill .coefficient)) (fill .measure) (fields fill ok .coefficient) (fields fill ok .measure)
-
   prover-least : 500000 ≤ proverCts metal fill
   unfolding proverCts
   prover-least = cts-least metal (fill .prover) m (fields fill ok .prover)
 
   ratio-most : measureCts fill * 1000000 ≤ 4000000 * proverCts metal fill
-  ratio-most = omega (arith, measure-most, prover-least)
+  unfolding measureCts metalOk
+  ratio-most = omega (arith, prover-least, cts-small Six (Certified (fill .coefficient)) (fill .measure) (fields fill ok .coefficient) (fields fill ok .measure))
 
   prover-some : 0 < proverCts metal fill
   prover-some = omega (arith, prover-least)
 
-  pub ccts-most : ccts metal fill ≤ 4000000
+  ccts-most : ccts metal fill ≤ 4000000
   unfolding ccts rounded
   ccts-most = at-most (measureCts fill * 1000000) 4000000 prover-some ratio-most
 
@@ -74,10 +73,8 @@ module _ (metal : Metal) (fill : FillRecord) (m : metalOk metal ≡ true) (ok : 
 
   pub ccts-value : {measure prover : ℕ} → measure ≡ measureCts fill → prover ≡ proverCts metal fill → valueOrZero (quotientOf (measure * 1000000) prover) ≡ ccts metal fill
   unfolding ccts rounded
-  ccts-value is-measure is-prover =
-      (λ i. valueOrZero (quotientOf (is-measure i * 1000000) (is-prover i))) ∙ value-below (measureCts fill * 1000000) prover-some 4000000 ratio-most (omega arith)
+  ccts-value is-measure is-prover = rw (is-measure, is-prover) (value-below (measureCts fill * 1000000) prover-some 4000000 ratio-most (omega arith))
 
   pub drawn-value : {volume factor : ℕ} → volume ≡ adjusted fill → factor ≡ ccts metal fill → valueOrZero (quotientOf (volume * fill .ctdw * factor) 1000000000000) ≡ drawn metal fill
   unfolding drawn
-  drawn-value is-volume is-factor =
-      (λ i. valueOrZero (quotientOf (is-volume i * fill .ctdw * is-factor i) 1000000000000)) ∙ value-below (adjusted fill * fill .ctdw * ccts metal fill) (omega arith) 500000000 product-most (omega arith)
+  drawn-value is-volume is-factor = rw (is-volume, is-factor) (value-below (adjusted fill * fill .ctdw * ccts metal fill) (omega arith) 500000000 product-most (omega arith))

@@ -12,10 +12,11 @@ use borrow.Author.Tests.{eqb-true, eq-eqb}
 use lib.Dec.{eqb}
 use Rattle.ranges.proofs.Laws.{both-first, both-second}
 use Rattle.octets.specs.FirstToLast.{firstPlace}
+use Rattle.octets.specs.Records.{recordsIn}
 use Rattle.octets.proofs.FirstToLast.{First, place-first, place-none}
 use Rattle.factors.specs.declared.Prover.{Prover}
 use Rattle.draw.specs.Fill.{fillAt, follows, ruleOk}
-use Rattle.draw.specs.Passes.{fillsIn, passCount, isOf, pressureAt, passPressure}
+use Rattle.draw.specs.Passes.{passCount, isOf, pressureAt, passPressure}
 use Rattle.draw.specs.declared.FillRecord.{FillRecord}
 use Rattle.draw.proofs.Sound.{Sound}
 
@@ -46,7 +47,7 @@ module _ (prover : Prover) (s : List ℕ) (good : Sound prover s) where
   unfolding ruleOk
   begins = eqb-true (fillAt s 0 .pass) 1 (good .rule 0 (omega (arith, good .some-fills)))
 
-  pub rises : (i : ℕ) → suc i < fillsIn s → GoesOn (fillAt s i) (fillAt s (suc i))
+  pub rises : (i : ℕ) → suc i < recordsIn 32 s → GoesOn (fillAt s i) (fillAt s (suc i))
   unfolding ruleOk
   rises i h = goes-on (fillAt s i) (fillAt s (suc i)) (good .rule (suc i) h)
 
@@ -55,7 +56,7 @@ module _ (prover : Prover) (s : List ℕ) (good : Sound prover s) where
     pub on : fillAt s k .pass ≤ fillAt s i .pass
     pub same : fillAt s i .pass ≡ fillAt s k .pass → fillAt s i .pressure ≡ fillAt s k .pressure
 
-  pub later : (k i : ℕ) → k ≤ i → i < fillsIn s → Later k i
+  pub later : (k i : ℕ) → k ≤ i → i < recordsIn 32 s → Later k i
   later k zero le h =
       let same : zero ≡ k = omega arith in
       record { on = omega (arith, ap (λ (j : ℕ). fillAt s j .pass) same); same = λ _. ap (λ (j : ℕ). fillAt s j .pressure) same }
@@ -65,29 +66,29 @@ module _ (prover : Prover) (s : List ℕ) (good : Sound prover s) where
       (λ above. let same : suc i ≡ k = omega arith in record { on = omega (arith, ap (λ (j : ℕ). fillAt s j .pass) same); same = λ _. ap (λ (j : ℕ). fillAt s j .pressure) same })
 
   -- 'all fills of a pass carry one pressure': the pass's
-  pub one-pressure : (i : ℕ) → i < fillsIn s → fillAt s i .pressure ≡ passPressure s (fillAt s i .pass)
+  pub one-pressure : (i : ℕ) → i < recordsIn 32 s → fillAt s i .pressure ≡ passPressure s (fillAt s i .pass)
   unfolding passPressure isOf
-  one-pressure i h = by-place (firstPlace (isOf s (fillAt s i .pass)) (fillsIn s) 0) refl
+  one-pressure i h = by-place (firstPlace (isOf s (fillAt s i .pass)) (recordsIn 32 s) 0) refl
     where
       of-itself : isOf s (fillAt s i .pass) i ≡ true
       of-itself = eq-eqb (fillAt s i .pass) (fillAt s i .pass) refl
 
-      by-place : (at : Option ℕ) → firstPlace (isOf s (fillAt s i .pass)) (fillsIn s) 0 ≡ at → fillAt s i .pressure ≡ pressureAt s at
-      by-place none is = let z : true ≡ false = sym of-itself ∙ place-none (isOf s (fillAt s i .pass)) (fillsIn s) 0 is i (omega arith) (omega arith) in let y : _≡_ {A = ℕ} 0 1 = cc in absurd (omega arith)
+      by-place : (at : Option ℕ) → firstPlace (isOf s (fillAt s i .pass)) (recordsIn 32 s) 0 ≡ at → fillAt s i .pressure ≡ pressureAt s at
+      by-place none is = let z : true ≡ false = sym of-itself ∙ place-none (isOf s (fillAt s i .pass)) (recordsIn 32 s) 0 is i (omega arith) (omega arith) in let y : _≡_ {A = ℕ} 0 1 = cc in absurd (omega arith)
       by-place (some k) is =
-          let first : First (isOf s (fillAt s i .pass)) (fillsIn s) 0 k = place-first (isOf s (fillAt s i .pass)) (fillsIn s) 0 is in
+          let first : First (isOf s (fillAt s i .pass)) (recordsIn 32 s) 0 k = place-first (isOf s (fillAt s i .pass)) (recordsIn 32 s) 0 is in
           by-cases (decLe k i)
           (λ le. later k i le h .same (sym (eqb-true (fillAt s k .pass) (fillAt s i .pass) (first .passes))))
           (λ more. let z : true ≡ false = sym of-itself ∙ first .before i (omega arith) (omega arith) in let y : _≡_ {A = ℕ} 0 1 = cc in absurd (omega arith))
 
   -- no pass is skipped
-  pub reached : (i pass : ℕ) → i < fillsIn s → 1 ≤ pass → pass ≤ fillAt s i .pass → FillOf s pass i
+  pub reached : (i pass : ℕ) → i < recordsIn 32 s → 1 ≤ pass → pass ≤ fillAt s i .pass → FillOf s pass i
   reached zero pass h low le = record { place = 0; below = omega arith; is = omega (arith, begins) }
   reached (suc i) pass h low le =
       by-cases (decLe pass (fillAt s i .pass))
       (λ earlier. let at : FillOf s pass i = reached i pass (omega arith) low earlier in record { place = at .place; below = omega arith; is = at .is })
       (λ new. record { place = suc i; below = omega arith; is = ⊎-elim (λ goes. absurd (omega (arith, goes .0))) (λ next. omega (arith, next)) (rises i h) })
 
-  pub every-pass : (pass : ℕ) → 1 ≤ pass → pass ≤ passCount s → FillOf s pass (fillsIn s - 1)
+  pub every-pass : (pass : ℕ) → 1 ≤ pass → pass ≤ passCount s → FillOf s pass (recordsIn 32 s - 1)
   unfolding passCount
-  every-pass pass low le = reached (fillsIn s - 1) pass (omega (arith, good .some-fills)) low le
+  every-pass pass low le = reached (recordsIn 32 s - 1) pass (omega (arith, good .some-fills)) low le

@@ -1,16 +1,21 @@
 -- No fill is lost and none is counted twice: the sums of all passes are together the sum of all fills.
 use mathlib.Core.Path.{_≡_, refl, _∙_}
+use mathlib.Core.Bool.{cond}
 use mathlib.Core.Logic.{by-cases}
 use mathlib.Core.List.{List}
 use Prim.Native.Nat.{ℕ, zero, suc, _+_, _-_, _≤_, _<_}
-use native.Mathlib.Decide.{decLe}
+use native.Mathlib.Decide.{decLt}
 use native.Mathlib.Omega.{arith}
 use borrow.Author.Tests.{eq-eqb, ne-eqb}
+use lib.Dec.{eqb}
+use Rattle.octets.specs.Records.{recordsIn}
+use Rattle.exact.specs.Words.{sumOf}
+use Rattle.group.specs.Listed.{listed}
 use Rattle.factors.specs.declared.Metal.{Metal}
 use Rattle.factors.specs.declared.Prover.{Prover}
 use Rattle.draw.specs.Fill.{fillAt}
 use Rattle.draw.specs.Drawn.{drawn}
-use Rattle.draw.specs.Passes.{fillsIn, passCount, isOf, drawnFor, sumTo, passSum}
+use Rattle.draw.specs.Passes.{passCount, isOf, drawnFor, passSum}
 use Rattle.draw.proofs.Sound.{Sound}
 use Rattle.draw.proofs.Rule.{later, begins}
 
@@ -18,58 +23,55 @@ use Rattle.draw.proofs.Rule.{later, begins}
 unfoldable pub drawnAt : Metal → List ℕ → ℕ → ℕ
 drawnAt metal s i = drawn metal (fillAt s i)
 
--- the sum of a pass, counted from 0
-unfoldable pub sumOfPass : Metal → List ℕ → ℕ → ℕ
-sumOfPass metal s k = passSum metal s (suc k)
+-- the sum of n values from place i on
+abbrev total : (ℕ → ℕ) → ℕ → ℕ → ℕ
+total f n i = sumOf (listed f n i)
 
-module _ (metal : Metal) (s : List ℕ) where
-  -- what the fills below n add to the passes 1 to count
-  unfoldable addedTo : ℕ → ℕ → ℕ
-  addedTo n zero = 0
-  addedTo n (suc k) = addedTo n k + sumTo (drawnFor metal s (suc k)) n
+-- of values that agree, and of values added one by one
+agreeing : (f g : ℕ → ℕ) (n i : ℕ) → ((j : ℕ) → i ≤ j → j < i + n → f j ≡ g j) → total f n i ≡ total g n i
+unfolding sumOf listed
+agreeing f g zero i agree = refl
+agreeing f g (suc n) i agree = omega (arith, agree i (omega arith) (omega arith), agreeing f g n (i + 1) (λ j l h. agree j (omega arith) (omega arith)))
 
-  none-added : (count : ℕ) → addedTo 0 count ≡ 0
-  unfolding addedTo sumTo
-  none-added zero = refl
-  none-added (suc k) = omega (arith, none-added k)
+added : (f g : ℕ → ℕ) (n i : ℕ) → total (λ j. f j + g j) n i ≡ total f n i + total g n i
+unfolding sumOf listed
+added f g zero i = refl
+added f g (suc n) i = omega (arith, added f g n (i + 1))
 
-  -- what the fill at i adds to them: once, if its pass is among them
-  unfoldable once : ℕ → ℕ → ℕ
-  once i zero = 0
-  once i (suc k) = once i k + drawnFor metal s (suc k) i
+nothing-added : (n i : ℕ) → total (λ j. 0) n i ≡ 0
+unfolding sumOf listed
+nothing-added zero i = refl
+nothing-added (suc n) i = omega (arith, nothing-added n (i + 1))
 
-  once-none : (i count : ℕ) → count < fillAt s i .pass → once i count ≡ 0
-  unfolding once drawnFor isOf
-  once-none i zero h = refl
-  once-none i (suc k) h = rw (ne-eqb (fillAt s i .pass) (suc k) (λ is. omega arith)) (omega (arith, once-none i k (omega arith)))
+-- by rows or by columns
+exchanged : (f : ℕ → ℕ → ℕ) (c k n i : ℕ) → total (λ p. total (f p) n i) c k ≡ total (λ j. total (λ p. f p j) c k) n i
+unfolding sumOf listed
+exchanged f c k zero i = nothing-added c k
+exchanged f c k (suc n) i = added (λ p. f p i) (λ p. total (f p) n (i + 1)) c k ∙ omega (arith, exchanged f c k n (i + 1))
 
-  once-all : (i count : ℕ) → 1 ≤ fillAt s i .pass → fillAt s i .pass ≤ count → once i count ≡ drawnAt metal s i
-  unfolding once drawnFor isOf drawnAt
-  once-all i zero low le = absurd (omega arith)
-  once-all i (suc k) low le =
-      by-cases (decLe (fillAt s i .pass) k)
-      (λ earlier. rw (ne-eqb (fillAt s i .pass) (suc k) (λ is. omega arith)) (omega (arith, once-all i k low earlier)))
-      (λ new. rw (eq-eqb (fillAt s i .pass) (suc k) (omega arith)) (omega (arith, once-none i k (omega arith))))
+-- a value that one place adds: none of those behind it, and that one among them
+abbrev atPlace : ℕ → ℕ → ℕ → ℕ
+atPlace q x p = cond (eqb q p) x 0
 
-  added-next : (n count : ℕ) → addedTo (suc n) count ≡ addedTo n count + once n count
-  unfolding addedTo once sumTo
-  added-next n zero = refl
-  added-next n (suc k) = omega (arith, added-next n k)
+not-there : (q x c k : ℕ) → q < k → total (atPlace q x) c k ≡ 0
+unfolding sumOf listed
+not-there q x zero k h = refl
+not-there q x (suc c) k h = rw (ne-eqb q k (λ is. omega arith)) (omega (arith, not-there q x c (k + 1) (omega arith)))
 
-  added-all : (n count : ℕ) → ((i : ℕ) → i < n → (1 ≤ fillAt s i .pass) × (fillAt s i .pass ≤ count)) → addedTo n count ≡ sumTo (drawnAt metal s) n
-  unfolding sumTo
-  added-all zero count each = none-added count
-  added-all (suc n) count each =
-      let here = each n (omega arith) in
-      omega (arith, added-next n count, added-all n count (λ i h. each i (omega arith)), once-all n count (here .0) (here .1))
+once : (q x c k : ℕ) → k ≤ q → q < k + c → total (atPlace q x) c k ≡ x
+unfolding sumOf listed
+once q x zero k low high = absurd (omega arith)
+once q x (suc c) k low high =
+    by-cases (decLt k q)
+    (λ past. rw (ne-eqb q k (λ is. omega arith)) (omega (arith, once q x c (k + 1) (omega arith) (omega arith))))
+    (λ here. rw (eq-eqb q k (omega arith)) (omega (arith, not-there q x c (k + 1) (omega arith))))
 
-  sums-are : (count : ℕ) → sumTo (sumOfPass metal s) count ≡ addedTo (fillsIn s) count
-  unfolding sumTo sumOfPass passSum addedTo
-  sums-are zero = refl
-  sums-are (suc k) = omega (arith, sums-are k)
-
-pub all-fills-once : (prover : Prover) (s : List ℕ) → Sound prover s → sumTo (sumOfPass (prover .metal) s) (passCount s) ≡ sumTo (drawnAt (prover .metal) s) (fillsIn s)
-unfolding passCount
+pub all-fills-once : (prover : Prover) (s : List ℕ) → Sound prover s → sumOf (listed (passSum (prover .metal) s) (passCount s) 1) ≡ sumOf (listed (drawnAt (prover .metal) s) (recordsIn 32 s) 0)
+unfolding passSum drawnFor isOf drawnAt passCount
 all-fills-once prover s good =
-    sums-are (prover .metal) s (passCount s)
-    ∙ added-all (prover .metal) s (fillsIn s) (passCount s) (λ i h. (omega (arith, begins prover s good, later prover s good 0 i (omega arith) h .on), later prover s good i (fillsIn s - 1) (omega arith) (omega (arith, good .some-fills)) .on))
+    let n = recordsIn 32 s in
+    exchanged (drawnFor (prover .metal) s) (passCount s) 1 n 0
+    ∙ agreeing (λ i. total (λ p. drawnFor (prover .metal) s p i) (passCount s) 1) (drawnAt (prover .metal) s) n 0 (λ i l h.
+    once (fillAt s i .pass) (drawn (prover .metal) (fillAt s i)) (passCount s) 1
+    (omega (arith, begins prover s good, later prover s good 0 i (omega arith) (omega arith) .on))
+    (omega (arith, later prover s good i (n - 1) (omega arith) (omega (arith, good .some-fills)) .on)))

@@ -4,49 +4,55 @@ use mathlib.Core.Bool.{Bool, true, false, cond}
 use mathlib.Core.List.{List, [], _∷_, _++_}
 use Prim.Native.Nat.{ℕ, zero, suc, _+_, _-_, _*_, _≤_, _<_}
 use native.Mathlib.Nat.{mul-le-mul, mul-le-mul-left}
-use native.Mathlib.Numerals.{add-one}
 use native.Mathlib.Omega.{arith}
 use borrow.Author.Tests.{eq-eqb, ne-eqb}
 use lib.Dec.{eqb}
 use lib.ListN.{length, take, set, replicate, length-append, length-replicate}
 use lib.Seq.{set-append-seam, append-snoc, take-at}
 use Rattle.ranges.specs.Table.{pressureOk, compressibilityOk}
-use Rattle.ranges.proofs.Laws.{within-high}
+use Rattle.ranges.proofs.Laws.{within-high, both-true}
+use Rattle.octets.specs.Records.{zerosAfter}
 use Rattle.exact.specs.Rounding.{rounded}
+use Rattle.exact.specs.Words.{sumOf}
 use Rattle.exact.specs.Quotient.{quotientOf, valueOrZero}
 use Rattle.exact.proofs.Rounding.{at-least}
 use Rattle.exact.proofs.Answers.{value-below}
+use Rattle.group.specs.Listed.{listed}
+use Rattle.group.proofs.Listed.{listed-length}
 use Rattle.factors.specs.Fractions.{cps, cpl}
-use Rattle.factors.specs.Answers.{pipeOk}
+use Rattle.factors.specs.Prover.{pipeOk}
+use Rattle.factors.specs.Liquid.{liquidOk, cplFrom}
+use Rattle.factors.specs.Rounded.{cpsAt, cplAt}
 use Rattle.factors.specs.declared.Metal.{Metal}
 use Rattle.factors.specs.declared.Pipe.{Pipe}
-use Rattle.factors.specs.declared.Prover.{Prover}
 use Rattle.factors.specs.declared.Places.the-variants.{Six}
 use Rattle.factors.proofs.Steel.{Loads, loads}
 use Rattle.factors.proofs.Values.{cps-small, cpl-small}
 use Rattle.draw.specs.Fill.{fillAt}
 use Rattle.draw.specs.Drawn.{drawn}
-use Rattle.draw.specs.Passes.{isOf, drawnFor, sumTo, pipeFactor, waterFactor, correctedVolume, passVolume, volumesTo, zerosAfter}
+use Rattle.draw.specs.Passes.{isOf, drawnFor, waterAt, correctedVolume}
 use Rattle.draw.specs.declared.FillRecord.{FillRecord}
 
 -- ---- the sum
 
--- one fill more
-pub sum-next : (f : ℕ → ℕ) (i : ℕ) {sum x : ℕ} → sum ≡ sumTo f i → x ≡ f i → sum + x ≡ sumTo f (i + 1)
-unfolding sumTo
-sum-next f i is-sum is = rw add-one (λ t. is-sum t + is t)
+-- one fill more: what is summed, and the sum of the rest
+pub sum-next : (f : ℕ → ℕ) (n i sum : ℕ) {x all : ℕ} → i < n → x ≡ f i → sum + sumOf (listed f (n - i) i) ≡ all → sum + x + sumOf (listed f (n - (i + 1)) (i + 1)) ≡ all
+unfolding sumOf listed
+sum-next f n i sum h is at =
+    let more : n - i ≡ suc (n - (i + 1)) = omega arith in
+    omega (arith, at, ap (λ (m : ℕ). sumOf (listed f m i)) more)
 
--- whether a fill that was read is one of the pass
+-- whether a decoded fill is one of the pass
 module _ (s : List ℕ) (i : ℕ) {fill : FillRecord} (is : fill ≡ fillAt s i) where
-  read-is-of : (pass : ℕ) → eqb (fill .pass) pass ≡ isOf s pass i
+  decoded-is-of : (pass : ℕ) → eqb (fill .pass) pass ≡ isOf s pass i
   unfolding isOf
-  read-is-of pass = ap (λ (f : FillRecord). eqb (f .pass) pass) is
+  decoded-is-of pass = rw is
 
   pub of-pass : {pass : ℕ} → fill .pass ≡ pass → isOf s pass i ≡ true
-  of-pass {pass} same = sym (read-is-of pass) ∙ eq-eqb (fill .pass) pass same
+  of-pass {pass} same = sym (decoded-is-of pass) ∙ eq-eqb (fill .pass) pass same
 
   pub not-of-pass : (pass : ℕ) → (fill .pass ≡ pass → ⊥) → isOf s pass i ≡ false
-  not-of-pass pass other = sym (read-is-of pass) ∙ ne-eqb (fill .pass) pass other
+  not-of-pass pass other = sym (decoded-is-of pass) ∙ ne-eqb (fill .pass) pass other
 
   -- what a fill of the pass adds, and what another does
   pub adds : (metal : Metal) {pass x : ℕ} → fill .pass ≡ pass → x ≡ drawn metal fill → x ≡ drawnFor metal s pass i
@@ -59,48 +65,41 @@ module _ (s : List ℕ) (i : ℕ) {fill : FillRecord} (is : fill ≡ fillAt s i)
 
 -- ---- the corrected volume
 
+pub water-ok : (pressure : ℕ) → pressureOk pressure ≡ true → liquidOk (waterAt pressure) ≡ true
+unfolding liquidOk waterAt compressibilityOk
+water-ok pressure ok = both-true ok refl
+
 module _ (pipe : Pipe) (pressure : ℕ) (pipe-ok : pipeOk pipe ≡ true) (ok : pressureOk pressure ≡ true) where
-  pipe-least : 1000000 ≤ pipeFactor pipe pressure
-  unfolding pipeFactor cps rounded
-  pipe-least =
+  product-least : 1000000000000 ≤ cpsAt 6 pipe pressure * cplAt 6 (waterAt pressure)
+  unfolding cpsAt cplAt cplFrom cps cpl waterAt rounded pressureOk
+  product-least =
       let l : Loads pipe pressure = loads pipe-ok ok in
-      at-least ((pipe .modulus * pipe .wall + pressure * pipe .diameter) * 1000000) 1000000 (omega arith) (omega arith)
-
-  water-least : 1000000 ≤ waterFactor pressure
-  unfolding waterFactor cpl rounded pressureOk
-  water-least =
       let p : pressure ≤ 1500 = within-high 0 1500 pressure ok in
-      at-least (100000000 * 1000000) 1000000 (omega arith) (omega arith)
+      mul-le-mul {n₁ = 1000000} {m₁ = 1000000}
+      (at-least ((pipe .modulus * pipe .wall + pressure * pipe .diameter) * 1000000) 1000000 (omega arith) (omega arith))
+      (at-least (100000000 * 1000000) 1000000 (omega arith) (omega arith))
 
-  pub pipe-most : pipeFactor pipe pressure ≤ 2000000
-  unfolding pipeFactor
-  pipe-most = cps-small Six pipe pressure pipe-ok ok
+  pub product-fits : {a b : ℕ} → a ≡ cpsAt 6 pipe pressure → b ≡ cplAt 6 (waterAt pressure) → a * b ≤ 4000000000000
+  product-fits is-a is-b = rw (is-a, is-b) (mul-le-mul {n₂ = 2000000} {m₂ = 2000000} (cps-small Six pipe pressure pipe-ok ok) (cpl-small Six (waterAt pressure) (water-ok pressure ok)))
 
-  pub water-most : waterFactor pressure ≤ 2000000
-  unfolding waterFactor compressibilityOk
-  water-most = cpl-small Six 320 pressure ok refl
-
-  product-least : 1000000000000 ≤ pipeFactor pipe pressure * waterFactor pressure
-  product-least = mul-le-mul {n₁ = 1000000} {m₁ = 1000000} pipe-least water-least
-
-  pub product-fits : {a b : ℕ} → a ≡ pipeFactor pipe pressure → b ≡ waterFactor pressure → a * b ≤ 4000000000000
-  product-fits is-a is-b = rw (is-a, is-b) (mul-le-mul {n₂ = 2000000} {m₂ = 2000000} pipe-most water-most)
-
-  pub corrected-value : {a b : ℕ} (sum : ℕ) → sum ≤ 30000000000 → a ≡ pipeFactor pipe pressure → b ≡ waterFactor pressure → valueOrZero (quotientOf (sum * 1000000000000) (a * b)) ≡ correctedVolume pipe pressure sum
+  pub corrected-value : {a b : ℕ} (sum : ℕ) → sum ≤ 30000000000 → a ≡ cpsAt 6 pipe pressure → b ≡ cplAt 6 (waterAt pressure) → valueOrZero (quotientOf (sum * 1000000000000) (a * b)) ≡ correctedVolume pipe pressure sum
   unfolding correctedVolume
   corrected-value sum few is-a is-b =
-      (λ i. valueOrZero (quotientOf (sum * 1000000000000) (is-a i * is-b i)))
-      ∙ value-below (sum * 1000000000000) (omega (arith, product-least)) sum (mul-le-mul-left sum product-least) (omega arith)
+      rw (is-a, is-b) (value-below (sum * 1000000000000) (omega (arith, product-least)) sum (mul-le-mul-left sum product-least) (omega arith))
 
 -- ---- the array of volumes
 
-pub length-volumes : (prover : Prover) (s : List ℕ) (n : ℕ) → length (volumesTo prover s n) ≡ n
-unfolding volumesTo
-length-volumes prover s zero = refl
-length-volumes prover s (suc n) = length-append (volumesTo prover s n) (passVolume prover s (suc n) ∷ []) ∙ omega (arith, length-volumes prover s n)
+-- one value more, behind the others
+listed-next : (f : ℕ → ℕ) (n i : ℕ) → listed f (n + 1) i ≡ listed f n i ++ (f (i + n) ∷ [])
+unfolding listed
+listed-next f zero i = ap (λ (v : ℕ). v ∷ []) (ap f (omega arith))
+listed-next f (suc n) i =
+    let more : suc n + 1 ≡ suc (n + 1) = omega arith in
+    ap (λ (m : ℕ). listed f m i) more
+    ∙ ap (λ (l : List ℕ). f i ∷ l) (listed-next f n (i + 1) ∙ ap (λ (v : ℕ). listed f n (i + 1) ++ (v ∷ [])) (ap f (omega arith)))
 
 -- one value more, at the first place that is still zero
-pub zeros-next : (n : ℕ) (xs : List ℕ) (v : ℕ) → length xs < n → set (zerosAfter n xs) (length xs) v ≡ zerosAfter n (xs ++ (v ∷ []))
+zeros-next : (n : ℕ) (xs : List ℕ) (v : ℕ) → length xs < n → set (zerosAfter n xs) (length xs) v ≡ zerosAfter n (xs ++ (v ∷ []))
 unfolding zerosAfter
 zeros-next n xs v h =
     let room : n - length xs ≡ suc (n - (length xs + 1)) = omega arith in
@@ -110,15 +109,10 @@ zeros-next n xs v h =
     ∙ sym (append-snoc xs v (replicate (n - (length xs + 1)) 0))
     ∙ ap (λ (m : ℕ). xs ++ (v ∷ []) ++ replicate (n - m) 0) (sym longer)
 
--- one pass more
-volumes-longer : (prover : Prover) (s : List ℕ) (i : ℕ) → volumesTo prover s (i + 1) ≡ volumesTo prover s i ++ (passVolume prover s (i + 1) ∷ [])
-unfolding volumesTo
-volumes-longer prover s i = rw add-one
-
-pub volumes-next : (prover : Prover) (s : List ℕ) (n i : ℕ) {volumes : List ℕ} {x : ℕ} → i < n → volumes ≡ zerosAfter n (volumesTo prover s i) → x ≡ passVolume prover s (i + 1) → set volumes i x ≡ zerosAfter n (volumesTo prover s (i + 1))
-volumes-next prover s n i {volumes} {x} h held is =
-    let long : length (volumesTo prover s i) ≡ i = length-volumes prover s i in
-    (λ t. set (held t) (sym long t) (is t)) ∙ zeros-next n (volumesTo prover s i) (passVolume prover s (i + 1)) (omega arith) ∙ ap (zerosAfter n) (sym (volumes-longer prover s i))
+pub volumes-next : (f : ℕ → ℕ) (n i : ℕ) {volumes : List ℕ} {x : ℕ} → i < n → volumes ≡ zerosAfter n (listed f i 1) → x ≡ f (1 + i) → set volumes i x ≡ zerosAfter n (listed f (i + 1) 1)
+volumes-next f n i {volumes} {x} h held is =
+    let long : length (listed f i 1) ≡ i = listed-length f i 1 in
+    (λ t. set (held t) (sym long t) (is t)) ∙ zeros-next n (listed f i 1) (f (1 + i)) (omega arith) ∙ ap (zerosAfter n) (sym (listed-next f i 1))
 
 -- the array's length, and the values it holds
 pub length-zeros : (n : ℕ) (xs : List ℕ) → length xs ≤ n → length (zerosAfter n xs) ≡ n

@@ -2,9 +2,9 @@
 use Prim.Native.Nat.{ℕ, _*_, _^_}
 use lib.IntN.{pos, natAbs, _+ℤ_}
 use Rattle.exact.specs.Rounding.{roundedDiv, rounded, _over_}
-use Rattle.factors.specs.Fractions.{cts}
-use Rattle.factors.specs.Metal.{coefficientOf}
+use Rattle.factors.specs.Rounded.{ctsAt}
 use Rattle.factors.specs.declared.Metal.{Metal}
+use Rattle.factors.specs.declared.Metal.the-variants.{Certified}
 use Rattle.draw.specs.declared.FillRecord.{FillRecord}
 use Rattle.draw.specs.declared.FillFigures.{FillFigures}
 
@@ -14,11 +14,11 @@ adjusted fill = natAbs (pos (fill .certified) +ℤ fill .scale)
 
 -- CTS of the measure, by its own temperature and coefficient
 unfoldable pub measureCts : FillRecord → ℕ
-measureCts fill = rounded 6 (cts (fill .measure) (fill .coefficient))
+measureCts fill = ctsAt 6 (Certified (fill .coefficient)) (fill .measure)
 
 -- CTS of the prover, by its temperature at the fill and its metal
 unfoldable pub proverCts : Metal → FillRecord → ℕ
-proverCts metal fill = rounded 6 (cts (fill .prover) (coefficientOf metal))
+proverCts metal fill = ctsAt 6 metal (fill .prover)
 
 -- 'CCTS = rounded measure CTS ÷ rounded prover CTS'
 unfoldable pub ccts : Metal → FillRecord → ℕ

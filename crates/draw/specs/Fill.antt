@@ -3,9 +3,7 @@ use mathlib.Core.Bool.{Bool, _&&_, _||_}
 use mathlib.Core.List.{List}
 use Prim.Native.Nat.{ℕ, zero, suc, _+_, _*_}
 use lib.Dec.{eqb}
-use lib.IntN.{ℤ, pos, negℤ}
-use Rattle.ranges.specs.Within.{within, withinSigned}
-use Rattle.ranges.specs.Table.{drawProverOk, drawMeasureOk, coefficientOk, ctdwOk, pressureOk}
+use Rattle.ranges.specs.Table.{certifiedOk, scaleOk, drawProverOk, drawMeasureOk, coefficientOk, ctdwOk, pressureOk}
 use Rattle.octets.specs.Octets.{byteAt, wordAt, longAt, signedAt, zeroBetween}
 use Rattle.draw.specs.declared.FillRecord.{FillRecord}
 
@@ -27,17 +25,9 @@ fillFrom s at = record {
 unfoldable pub fillAt : List ℕ → ℕ → FillRecord
 fillAt s i = fillFrom s (32 * i)
 
--- 'certified volume (20,000 to 100,000,000 in 0.01 cubic inch)'
-unfoldable pub certifiedOk : ℕ → Bool
-certifiedOk = within 20000 100000000
-
--- 'scale reading (-10000 to 10000)', in 0.01 cubic inch
-unfoldable pub scaleOk : ℤ → Bool
-scaleOk = withinSigned (negℤ (pos 10000)) (pos 10000)
-
 -- each field in its range; 'the pass byte has no range of its own'
-unfoldable pub fieldsOk : FillRecord → Bool
-fieldsOk fill =
+unfoldable pub fillOk : FillRecord → Bool
+fillOk fill =
     certifiedOk (fill .certified)
     && (scaleOk (fill .scale)
     && (drawProverOk (fill .prover)

@@ -1,4 +1,4 @@
-// One fill: its record read and judged, and its figures.
+// One fill: its record decoded and judged, and its figures.
 use crate::FillFigures;
 use crate::FillRecord;
 use factors::Metal;
@@ -7,11 +7,11 @@ ghost use mathlib.Core.Path.{_≡_};
 ghost use mathlib.Core.Bool.{true};
 ghost use Prim.Native.Nat.{_<_};
 ghost use Rattle.factors.specs.Metal.{metalOk};
-ghost use Rattle.draw.specs.Fill.{fillAt, fieldsOk, unnamedOk, follows, ruleOk};
+ghost use Rattle.draw.specs.Fill.{fillAt, fillOk, unnamedOk, follows, ruleOk};
 ghost use Rattle.draw.specs.Drawn.{adjusted, figuresOf};
 
 // The record numbered i, from 0, of at most 60.
-pub(crate) fn read(s: &[u8], i: usize) -> FillRecord
+pub(crate) fn decode(s: &[u8], i: usize) -> FillRecord
     requires { ⌜ i < 60 ⌝ }
     ensures { λ r. ⌜ r ≡ fillAt (now (s .entry)) i ⌝ }
 {
@@ -29,16 +29,16 @@ pub(crate) fn read(s: &[u8], i: usize) -> FillRecord
 }
 
 // Every field of the record is in its range; the pass byte has none.
-pub(crate) fn are_fields_in_range(fill: FillRecord) -> bool
-    ensures { λ r. ⌜ r ≡ fieldsOk fill ⌝ }
+pub(crate) fn is_fill(fill: FillRecord) -> bool
+    ensures { λ r. ⌜ r ≡ fillOk fill ⌝ }
 {
-    ranges::is_within(fill.certified as u64, 20000, 100000000)
-        & (ranges::is_within_signed(fill.scale, -10000, 10000)
-            & (ranges::is_within_signed(fill.prover, 350, 1050)
-                & (ranges::is_within_signed(fill.measure, 321, 1050)
-                    & (ranges::is_within(fill.coefficient as u64, 100, 400)
-                        & (ranges::is_within(fill.ctdw as u64, 980000, 1020000)
-                            & ranges::is_within(fill.pressure as u64, 0, 1500))))))
+    ranges::is_certified(fill.certified as u64)
+        & (ranges::is_scale(fill.scale)
+            & (ranges::is_draw_prover(fill.prover)
+                & (ranges::is_draw_measure(fill.measure)
+                    & (ranges::is_coefficient(fill.coefficient as u64)
+                        & (ranges::is_ctdw(fill.ctdw as u64)
+                            & ranges::is_pressure(fill.pressure as u64))))))
 }
 
 // The bytes that the paper does not name: 17, and 20 to 31.
@@ -63,15 +63,15 @@ pub(crate) fn keeps_pass_rule(s: &[u8], i: usize) -> bool
     requires { ⌜ i < 60 ⌝ }
     ensures { λ r. ⌜ r ≡ ruleOk (now (s .entry)) i ⌝ }
 {
-    let fill = read(s, i);
+    let fill = decode(s, i);
     if i == 0 {
         return fill.pass == 1;
     }
-    is_next(read(s, i - 1), fill)
+    is_next(decode(s, i - 1), fill)
 }
 
 fn adjust(fill: FillRecord) -> u64
-    requires { ⌜ fieldsOk fill ≡ true ⌝ }
+    requires { ⌜ fillOk fill ≡ true ⌝ }
     ensures { λ r. ⌜ r ≡ adjusted fill ⌝ }
 {
     // counted from -100.00 cubic inches, so that no step is below zero
@@ -81,7 +81,7 @@ fn adjust(fill: FillRecord) -> u64
 
 // The fill's figures, for a caller that has judged the metal and the record.
 pub(crate) fn work_out(metal: Metal, fill: FillRecord) -> FillFigures
-    requires { ⌜ (metalOk metal ≡ true) × (fieldsOk fill ≡ true) ⌝ }
+    requires { ⌜ (metalOk metal ≡ true) × (fillOk fill ≡ true) ⌝ }
     ensures { λ r. ⌜ r ≡ figuresOf metal fill ⌝ }
 {
     let adjusted = adjust(fill);
@@ -92,9 +92,9 @@ pub(crate) fn work_out(metal: Metal, fill: FillRecord) -> FillFigures
         Places::Six,
     )) as u64;
     let prover = factors::value_or_zero(factors::cts(fill.prover, metal, Places::Six)) as u64;
-    let ccts = exact::value_or_zero(exact::rounded_ratio(measure, 1000000, prover));
+    let ccts = exact::round_or_zero(measure, 1000000, prover);
     let expanded = adjusted * fill.ctdw as u64;
-    let drawn = exact::value_or_zero(exact::rounded_ratio(expanded, ccts, 1000000000000));
+    let drawn = exact::round_or_zero(expanded, ccts, 1000000000000);
     FillFigures {
         adjusted,
         measure,

@@ -5,12 +5,12 @@ use factors::Metal;
 use factors::Prover;
 use group::Group;
 use refusals::Refusal;
+use refusals::Verdict;
 ghost use mathlib.Core.Path.{_≡_};
 ghost use Prim.Native.Nat.{_≤_};
 ghost use lib.ListN.{length};
-ghost use Rattle.group.specs.Repeatability.{firstGroup};
-ghost use Rattle.draw.specs.Base.{barrelsOf, baseFrom};
-ghost use Rattle.draw.specs.Answers.{toldFill, toldPasses, toldDraw, fillOf, passesOf, heldFor, decidedBy, drawOf};
+ghost use Rattle.draw.specs.Base.{barrelsOf, baseFrom, baseOf};
+ghost use Rattle.draw.specs.Answers.{toldFill, toldPasses, toldDraw, fillOf, passesOf, heldFor, drawOf};
 
 mod fills;
 mod judging;
@@ -27,12 +27,6 @@ struct FillRecord {
     ctdw: u32,
     pass: u8,
     pressure: u16,
-}
-
-// What judging finds.
-enum Verdict {
-    Fine,
-    Faulty(Refusal),
 }
 
 // One fill's figures: the adjusted measure, CTS of the measure and of the prover, CCTS, and the volume
@@ -78,24 +72,22 @@ pub enum WaterDraw {
 pub fn fill(metal: Metal, bytes: &[u8]) -> FillAnswer
     ensures { λ r. ⌜ toldFill r ≡ fillOf metal (now (bytes .entry)) ⌝ }
 {
-    if bytes.len() == 32 {
-        if factors::is_metal(metal) {
-            let verdict = judging::judge_record(bytes, 0);
-            return match verdict {
-                Verdict::Fine => {
-                    FillAnswer::Figures(fills::work_out(metal, fills::read(bytes, 0)))
-                }
-                Verdict::Faulty(refusal) => FillAnswer::Refused(refusal),
-            };
-        }
-        return FillAnswer::Refused(Refusal::ProverSetting);
+    let verdict = refusals::or_else(
+        refusals::demand(bytes.len() == 32, Refusal::Records),
+        refusals::or_else(
+            refusals::demand(factors::is_metal(metal), Refusal::ProverSetting),
+            judging::judge_record(bytes, 0),
+        ),
+    );
+    match verdict {
+        Verdict::Fine => FillAnswer::Figures(fills::work_out(metal, fills::decode(bytes, 0))),
+        Verdict::Refused(refusal) => FillAnswer::Refused(refusal),
     }
-    FillAnswer::Refused(Refusal::Records)
 }
 
 // The volumes of all passes of a draw, of which three need not qualify.
 pub fn passes(prover: Prover, records: &[u8]) -> PassVolumes
-    ensures { λ r. ⌜ (toldPasses (r .answer) ≡ passesOf prover (now (records .entry))) × (r .volumes ≡ heldFor prover (now (records .entry)) (passesOf prover (now (records .entry)))) ⌝ }
+    ensures { λ r. ⌜ (toldPasses (r .answer) ≡ passesOf prover (now (records .entry))) × (r .volumes ≡ heldFor prover (now (records .entry))) ⌝ }
 {
     let verdict = judging::judge_draw(prover, records);
     match verdict {
@@ -107,7 +99,7 @@ pub fn passes(prover: Prover, records: &[u8]) -> PassVolumes
                 volumes,
             }
         }
-        Verdict::Faulty(refusal) => {
+        Verdict::Refused(refusal) => {
             PassVolumes {
                 answer: Counted::Refused(refusal),
                 volumes: [0u64; 20],
@@ -120,7 +112,7 @@ pub fn passes(prover: Prover, records: &[u8]) -> PassVolumes
 fn in_barrels(base: u64) -> u64
     ensures { λ r. ⌜ r ≡ barrelsOf base ⌝ }
 {
-    exact::value_or_zero(exact::rounded_ratio(base, 10000, 970200))
+    exact::round_or_zero(base, 10000, 970200)
 }
 
 // The base volume from the passes that decide, of which the first is at a place from 0.
@@ -139,7 +131,7 @@ fn base_from(three: &[u64], at: usize) -> BaseVolume
 // The first three consecutive volumes that qualify decide.
 fn decide(volumes: &[u64]) -> WaterDraw
     requires { ⌜ length (now volumes) ≤ 20 ⌝ }
-    ensures { λ r. ⌜ toldDraw r ≡ decidedBy (now (volumes .entry)) (firstGroup 2 3 (now (volumes .entry))) ⌝ }
+    ensures { λ r. ⌜ toldDraw r ≡ baseOf 2 3 (now (volumes .entry)) ⌝ }
 {
     let found = group::first_group(volumes, 3, 2);
     match found {

@@ -1,5 +1,6 @@
 // The volume of each pass (01, 'Water draw'), of a draw in which judging found nothing.
 use crate::fills;
+use factors::Liquid;
 use factors::Metal;
 use factors::Pipe;
 use factors::Places;
@@ -9,18 +10,20 @@ ghost use mathlib.Core.Bool.{true};
 ghost use Prim.Native.Nat.{ℕ, _<_, _≤_};
 ghost use Rattle.refusals.specs.Told.{fine};
 ghost use Rattle.ranges.specs.Table.{pressureOk};
-ghost use Rattle.factors.specs.Answers.{pipeOk};
+ghost use Rattle.octets.specs.Records.{recordsIn, zerosAfter};
+ghost use Rattle.group.specs.Listed.{listed};
+ghost use Rattle.factors.specs.Prover.{pipeOk};
 ghost use Rattle.factors.specs.Metal.{metalOk};
-ghost use Rattle.draw.specs.Fill.{fillAt, fieldsOk};
-ghost use Rattle.draw.specs.Passes.{fillsIn, drawnFor, passSum, passPressure, correctedVolume, passVolume, volumesTo, zerosAfter};
+ghost use Rattle.draw.specs.Fill.{fillAt, fillOk};
+ghost use Rattle.draw.specs.Passes.{drawnFor, passSum, passPressure, correctedVolume, passVolume};
 ghost use Rattle.draw.specs.Answers.{drawFault};
 
 // What the fill adds to a pass: the volume drawn, if it is a fill of that pass.
 fn add_to_pass(metal: Metal, s: &[u8], pass: u8, i: usize) -> u64
-    requires { ⌜ (i < 60) × (metalOk metal ≡ true) × (fieldsOk (fillAt (now s) i) ≡ true) ⌝ }
+    requires { ⌜ (i < 60) × (metalOk metal ≡ true) × (fillOk (fillAt (now s) i) ≡ true) ⌝ }
     ensures { λ r. ⌜ (r ≡ drawnFor metal (now (s .entry)) pass i) × (r ≤ 500000000) ⌝ }
 {
-    let fill = fills::read(s, i);
+    let fill = fills::decode(s, i);
     if fill.pass == pass {
         return fills::work_out(metal, fill).drawn;
     }
@@ -29,7 +32,7 @@ fn add_to_pass(metal: Metal, s: &[u8], pass: u8, i: usize) -> u64
 
 // The sum of a pass's fills.
 fn add_up(metal: Metal, s: &[u8], pass: u8) -> u64
-    requires { ⌜ (metalOk metal ≡ true) × (fillsIn (now s) ≤ 60) × ((k : ℕ) → k < fillsIn (now s) → fieldsOk (fillAt (now s) k) ≡ true) ⌝ }
+    requires { ⌜ (metalOk metal ≡ true) × (recordsIn 32 (now s) ≤ 60) × ((k : ℕ) → k < recordsIn 32 (now s) → fillOk (fillAt (now s) k) ≡ true) ⌝ }
     ensures { λ r. ⌜ (r ≡ passSum metal (now (s .entry)) pass) × (r ≤ 30000000000) ⌝ }
 {
     let fills = s.len() / 32;
@@ -44,13 +47,13 @@ fn add_up(metal: Metal, s: &[u8], pass: u8) -> u64
 
 // The pressure of a pass: that of its first fill, since all carry one.
 fn find_pressure(s: &[u8], pass: u8) -> u16
-    requires { ⌜ (fillsIn (now s) ≤ 60) × ((k : ℕ) → k < fillsIn (now s) → fieldsOk (fillAt (now s) k) ≡ true) ⌝ }
+    requires { ⌜ (recordsIn 32 (now s) ≤ 60) × ((k : ℕ) → k < recordsIn 32 (now s) → fillOk (fillAt (now s) k) ≡ true) ⌝ }
     ensures { λ r. ⌜ (r ≡ passPressure (now (s .entry)) pass) × (pressureOk r ≡ true) ⌝ }
 {
     let fills = s.len() / 32;
     let mut i = 0;
     while i < fills {
-        let fill = fills::read(s, i);
+        let fill = fills::decode(s, i);
         if fill.pass == pass {
             return fill.pressure;
         }
@@ -59,14 +62,21 @@ fn find_pressure(s: &[u8], pass: u8) -> u16
     0
 }
 
-// The sum divided by the unrounded product of the two rounded factors; F of water is 320.
+// 'For water F is 320'.
+const WATER_COMPRESSIBILITY: u16 = 320;
+
+// The sum divided by the unrounded product of the two rounded factors.
 fn correct(pipe: Pipe, pressure: u16, sum: u64) -> u64
     requires { ⌜ (pipeOk pipe ≡ true) × (pressureOk pressure ≡ true) × (sum ≤ 30000000000) ⌝ }
     ensures { λ r. ⌜ r ≡ correctedVolume pipe pressure sum ⌝ }
 {
     let cps = factors::value_or_zero(factors::cps(pressure, pipe, Places::Six)) as u64;
-    let cpl = factors::value_or_zero(factors::cpl(pressure, 320, Places::Six)) as u64;
-    exact::value_or_zero(exact::rounded_ratio(sum, 1000000000000, cps * cpl))
+    let water = Liquid {
+        pressure,
+        compressibility: WATER_COMPRESSIBILITY,
+    };
+    let cpl = factors::value_or_zero(factors::cpl(water, Places::Six)) as u64;
+    exact::round_or_zero(sum, 1000000000000, cps * cpl)
 }
 
 fn find_volume(prover: Prover, s: &[u8], pass: u8) -> u64
@@ -81,7 +91,7 @@ fn find_volume(prover: Prover, s: &[u8], pass: u8) -> u64
 // The volumes of the passes 1 to count, and zeros after them.
 pub(crate) fn collect(prover: Prover, s: &[u8], count: u8) -> [u64; 20]
     requires { ⌜ (drawFault prover (now s) ≡ fine) × (count ≤ 20) ⌝ }
-    ensures { λ r. ⌜ r ≡ zerosAfter 20 (volumesTo prover (now (s .entry)) count) ⌝ }
+    ensures { λ r. ⌜ r ≡ zerosAfter 20 (listed (passVolume prover (now (s .entry))) count 1) ⌝ }
 {
     let mut volumes = [0u64; 20];
     let last = count as usize;

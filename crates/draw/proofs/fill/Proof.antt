@@ -1,60 +1,54 @@
 -- `draw::fill` meets its contract: 1, 3, 5 and 2 in this order, and then the figures.
-use mathlib.Core.Path.{sym, ap, _∙_}
-use borrow.Author.Tests.{eq-eqb, ne-eqb}
+use mathlib.Core.Path.{_≡_, sym, ap, _∙_}
+use mathlib.Core.Bool.{Bool}
 use borrow.Author.Needs.{needs}
+use lib.Dec.{eqb}
 use lib.ListN.{length}
-use Rattle.refusals.specs.Told.{done}
-use Rattle.refusals.proofs.Laws.{judged-fine, judged-fault, demand-holds, demand-fails, orElse-next, orElse-first}
-use Rattle.draw.specs.Fill.{fieldsOk}
+use Rattle.refusals.specs.Told.{done, fine, demand, orElse}
+use Rattle.refusals.specs.Verdict.{faultOf}
+use Rattle.refusals.proofs.Laws.{judged-fine, judged-fault, orElse-fine-first, orElse-fine-next, demand-was}
+use Rattle.factors.specs.Metal.{metalOk}
+use Rattle.draw.specs.Fill.{fillOk}
 use Rattle.draw.specs.Drawn.{figuresOf}
-use Rattle.draw.specs.Answers.{faultOf, fillOf}
+use Rattle.draw.specs.Answers.{aloneFault, fillOf}
 use Rattle.draw.proofs.Sound.{record-fields}
 use Rattle.draw.proofs.fill.Statement.{statement}
 use Rattle.draw.proofs.fill.Tie as tie
 
-enum-told : tie.Need-enum-told
-enum-told c = search needs
+abbrev start : tie.After-or-else2 → tie.Start
+start c = c .before .before .before .before .before .before .before
+
+found : (c : tie.After-or-else2) → faultOf (c .or-else2 .result) ≡ aloneFault (start c .args .metal) (start c .args .bytes .now)
+found c =
+    let rest = c .before in
+    let one = rest .before in
+    let set = one .before in
+    let three = set .demand2 .ensures ∙ ap (λ (holds : Bool). demand holds 3) (set .before .is-metal .ensures) in
+    let then = rest .or-else .ensures ∙ (λ i. orElse (three i) (one .judge-record .ensures i)) in
+    c .or-else2 .ensures ∙ (λ i. orElse (set .before .before .demand .ensures i) (then i))
+
+nothing : (c : tie.After-enum-told) → aloneFault (start (c .before .before) .args .metal) (start (c .before .before) .args .bytes .now) ≡ fine
+nothing c = sym (found (c .before .before)) ∙ ap faultOf (c .enum-told .given .1)
 
 work-out-requires : tie.Need-work-out-requires
 work-out-requires c κs =
-    let t = c .before in
-    let j = t .before .before in
-    let m = j .before in
-    (sym (m .before .is-metal .ensures) ∙ m .if2 .taken, ap fieldsOk (c .read .ensures) ∙ record-fields (m .before .before .before .before .args .bytes .now) 0 (sym (j .judge-record .ensures) ∙ ap faultOf (t .enum-told .given .1)))
+    let a = start (c .before .before .before) .args in
+    let set = demand (metalOk (a .metal)) 3 in
+    let later = orElse-fine-next (demand (eqb (length (a .bytes .now)) 32) 1) _ (nothing (c .before)) in
+    (demand-was (metalOk (a .metal)) 3 (orElse-fine-first set _ later), ap fillOk (c .decode .ensures) ∙ record-fields (a .bytes .now) 0 (orElse-fine-next set _ later))
 
 returns : tie.Need-returns
 unfolding fillOf
 returns c =
-    let r = c .before in
-    let t = r .before in
-    let j = t .before .before in
-    let m = j .before in
-    let one = m .before .before in
-    let a = one .before .before .args in
-    ap done (c .work-out .ensures ∙ ap (figuresOf (a .metal)) (r .read .ensures))
-    ∙ sym (judged-fine _ (orElse-next _ (demand-holds 1 (eq-eqb (length (a .bytes .now)) 32 (one .if1 .taken))) ∙ orElse-next _ (demand-holds 3 (sym (m .before .is-metal .ensures) ∙ m .if2 .taken)) ∙ sym (j .judge-record .ensures) ∙ ap faultOf (t .enum-told .given .1)))
+    let e = c .before .before in
+    ap done (c .work-out .ensures ∙ ap (figuresOf (start (e .before .before) .args .metal)) (c .before .decode .ensures)) ∙ sym (judged-fine _ (nothing e))
 
 returns-2 : tie.Need-returns-2
 unfolding fillOf
-returns-2 c =
-    let v = c .before in
-    let j = v .before .before in
-    let m = j .before in
-    let one = m .before .before in
-    let a = one .before .before .args in
-    sym (judged-fault _ (orElse-next _ (demand-holds 1 (eq-eqb (length (a .bytes .now)) 32 (one .if1 .taken))) ∙ orElse-next _ (demand-holds 3 (sym (m .before .is-metal .ensures) ∙ m .if2 .taken)) ∙ sym (j .judge-record .ensures) ∙ ap faultOf (v .verdict .given .1)))
-
-returns-3 : tie.Need-returns-3
-unfolding fillOf
-returns-3 c =
-    let one = c .before .before in
-    sym (judged-fault _ (orElse-next _ (demand-holds 1 (eq-eqb (length (one .before .before .args .bytes .now)) 32 (one .if1 .taken))) ∙ orElse-first _ (demand-fails 3 (sym (c .before .is-metal .ensures) ∙ c .if2 .left))))
-
-returns-4 : tie.Need-returns-4
-unfolding fillOf
-returns-4 c = sym (judged-fault _ (orElse-first _ (demand-fails 1 (ne-eqb (length (c .before .before .args .bytes .now)) 32 (c .if1 .left)))))
+returns-2 c = let v = c .before in sym (judged-fault _ (sym (found (v .before .before)) ∙ ap faultOf (v .verdict .given .1)))
 
 pub fill-spec : {M : Type 1} → statement M
 fill-spec =
     tie.close
-    (tie.spec (search needs) (search needs) enum-told (search needs) work-out-requires (search needs) returns returns-2 returns-3 returns-4)
+    (tie.spec (search needs) (search needs) (search needs) (search needs) (search needs) (search needs) (λ c. search needs) (search needs)
+    work-out-requires (search needs) returns returns-2)

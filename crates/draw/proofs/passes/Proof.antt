@@ -4,21 +4,25 @@ use Prim.Native.Nat.{ℕ}
 use native.Mathlib.Omega.{arith}
 use borrow.Author.Needs.{needs}
 use Rattle.refusals.specs.Told.{done, fine}
+use Rattle.refusals.specs.Verdict.{faultOf}
 use Rattle.refusals.proofs.Laws.{judged-fine, judged-fault}
-use Rattle.draw.specs.Passes.{passCount, volumesTo, zerosAfter}
-use Rattle.draw.specs.Answers.{faultOf, drawFault, passesOf, heldFor}
+use Rattle.octets.specs.Records.{zerosAfter}
+use Rattle.group.specs.Listed.{listed}
+use Rattle.draw.specs.Passes.{passCount, passVolume, volumesOf}
+use Rattle.draw.specs.Answers.{drawFault, passesOf}
 use Rattle.draw.proofs.Sound.{Sound, sound}
+use Rattle.draw.proofs.Outcome.{held-done, held-refused}
 use Rattle.draw.proofs.passes.Statement.{statement}
 use Rattle.draw.proofs.passes.Tie as tie
 
-nothing : (c : tie.After-enum-told) → drawFault (c .before .before .before .before .args .prover) (c .before .before .before .before .args .records .now) ≡ fine
+abbrev start : tie.After-enum-told → tie.Start
+start c = c .before .before .before .before
+
+nothing : (c : tie.After-enum-told) → drawFault (start c .args .prover) (start c .args .records .now) ≡ fine
 nothing c = sym (c .before .before .judge-draw .ensures) ∙ ap faultOf (c .enum-told .given .1)
 
-good : (c : tie.After-enum-told) → Sound (c .before .before .before .before .args .prover) (c .before .before .before .before .args .records .now)
-good c = sound (c .before .before .before .before .args .prover) (c .before .before .before .before .args .records .now) (nothing c)
-
-enum-told : tie.Need-enum-told
-enum-told c = search needs
+good : (c : tie.After-enum-told) → Sound (start c .args .prover) (start c .args .records .now)
+good c = sound (start c .args .prover) (start c .args .records .now) (nothing c)
 
 count-passes-requires : tie.Need-count-passes-requires
 count-passes-requires c κs = let w = good c in (omega (arith, w .some-fills), w .few-fills)
@@ -27,13 +31,14 @@ collect-requires : tie.Need-collect-requires
 collect-requires c κs = let e = c .before in (nothing e, omega (arith, c .count-passes .ensures, good e .few-passes))
 
 returns : tie.Need-returns
-unfolding passesOf
+unfolding passesOf volumesOf
 returns c =
     let n = c .before in
     let e = n .before in
-    let a = e .before .before .before .before .args in
-    let is = judged-fine (passCount (a .records .now)) (nothing e) in
-    (ap done (n .count-passes .ensures) ∙ sym is, c .collect .ensures ∙ ap (λ (k : ℕ). zerosAfter 20 (volumesTo (a .prover) (a .records .now) k)) (n .count-passes .ensures) ∙ sym (ap (heldFor (a .prover) (a .records .now)) is))
+    let a = start e .args in
+    let s = a .records .now in
+    let is = judged-fine (passCount s) (nothing e) in
+    (ap done (n .count-passes .ensures) ∙ sym is, c .collect .ensures ∙ ap (λ (k : ℕ). zerosAfter 20 (listed (passVolume (a .prover) s) k 1)) (n .count-passes .ensures) ∙ sym (held-done (a .prover) s is))
 
 returns-2 : tie.Need-returns-2
 unfolding passesOf zerosAfter
@@ -42,7 +47,7 @@ returns-2 c =
     let j = v .before .before in
     let a = j .before .before .args in
     let is = judged-fault (passCount (a .records .now)) (sym (j .judge-draw .ensures) ∙ ap faultOf (v .verdict .given .1)) in
-    (sym is, sym (ap (heldFor (a .prover) (a .records .now)) is))
+    (sym is, sym (held-refused (a .prover) (a .records .now) is))
 
 pub passes-spec : {M : Type 1} → statement M
-passes-spec = tie.close (tie.spec (search needs) enum-told count-passes-requires collect-requires (search needs) returns returns-2)
+passes-spec = tie.close (tie.spec (search needs) (λ c. search needs) count-passes-requires collect-requires (search needs) returns returns-2)

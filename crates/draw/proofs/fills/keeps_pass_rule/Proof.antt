@@ -6,10 +6,10 @@ use Rattle.draw.proofs.fills.keeps_pass_rule.Statement.{statement}
 use Rattle.draw.proofs.fills.keeps_pass_rule.Tie as tie
 
 returns : tie.Need-returns
-returns c = rule-first (c .before .before .before .before .args .s .now) (c .before .if1 .taken) (c .before .before .read .ensures)
+returns c = rule-first (c .before .before .before .before .args .s .now) (c .before .if1 .taken) (c .before .before .decode .ensures)
 
 returns-2 : tie.Need-returns-2
-returns-2 c = let a = c .before .before .before .before .before .args in c .is-next .ensures ∙ rule-later (a .s .now) (a .i) (c .before .before .if1 .left) (c .before .read2 .ensures) (c .before .before .before .read .ensures)
+returns-2 c = let a = c .before .before .before .before .before .args in c .is-next .ensures ∙ rule-later (a .s .now) (a .i) (c .before .before .if1 .left) (c .before .decode2 .ensures) (c .before .before .before .decode .ensures)
 
 pub keeps-pass-rule-spec : {M : Type 1} → statement M
 keeps-pass-rule-spec = tie.close (tie.spec (search needs) returns (search needs) (search needs) (search needs) returns-2)

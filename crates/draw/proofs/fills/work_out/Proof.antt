@@ -1,9 +1,8 @@
 -- `draw::fills::work_out` meets its contract: each figure is the paper's, and drawn's product passes 64 bits.
-use mathlib.Core.Path.{_≡_, ap, _∙_}
+use mathlib.Core.Path.{_≡_, _∙_}
 use Prim.Native.Nat.{ℕ, _*_, _≤_}
 use native.Mathlib.Omega.{arith}
 use borrow.Author.Needs.{needs}
-use Rattle.exact.specs.Quotient.{valueOrZero}
 use Rattle.factors.specs.Metal.{metalOk}
 use Rattle.factors.specs.declared.Metal.the-variants.{Certified}
 use Rattle.draw.specs.Drawn.{adjusted, measureCts, proverCts, figuresOf}
@@ -16,31 +15,28 @@ expanded-fits : (c : tie.Start) {x : ℕ} → x ≡ adjusted (c .args .fill) →
 expanded-fits c is = let a = c .args in rw is (expanded-most (a .metal) (a .fill) (c .pre .0) (c .pre .1))
 
 mul-expanded : tie.Need-mul-expanded
-mul-expanded c = let s = c .before .before .before .before .before .before .before .before .before in omega (arith, s .adjust .ensures, expanded-fits (s .before) (s .adjust .ensures))
+mul-expanded c = let s = c .before .before .before .before .before .before .before .before in omega (arith, s .adjust .ensures, expanded-fits (s .before) (s .adjust .ensures))
 
 returns : tie.Need-returns
 unfolding figuresOf measureCts proverCts metalOk
 returns c =
-    let ratio2 = c .before in
-    let value3 = ratio2 .before .before in
-    let ratio = value3 .before in
+    let ratio = c .before .before in
     let value2 = ratio .before in
     let cts2 = value2 .before in
     let value1 = cts2 .before .before in
     let cts1 = value1 .before in
     let volume = cts1 .before .before in
     let s = volume .before in
-    let a = s .args in
-    let f = fields (a .fill) (s .pre .1) in
-    let measure = cts-at (cts1 .cts .result) (Certified (a .fill .coefficient)) (a .fill .measure) (value1 .value-or-zero .ensures) (cts1 .cts .ensures) (f .coefficient) (f .measure) in
-    let prover = cts-at (cts2 .cts2 .result) (a .metal) (a .fill .prover) (value2 .value-or-zero2 .ensures) (cts2 .cts2 .ensures) (s .pre .0) (f .prover) in
-    let factor = value3 .value-or-zero3 .ensures ∙ ap valueOrZero (ratio .rounded-ratio .ensures) ∙ ccts-value (a .metal) (a .fill) (s .pre .0) (s .pre .1) measure prover in
-    let all = c .value-or-zero4 .ensures ∙ ap valueOrZero (ratio2 .rounded-ratio2 .ensures) ∙ drawn-value (a .metal) (a .fill) (s .pre .0) (s .pre .1) (volume .adjust .ensures) factor in
+    let fill = s .args .fill in
+    let f = fields fill (s .pre .1) in
+    let measure = cts-at (cts1 .cts .result) (Certified (fill .coefficient)) (fill .measure) (cts1 .before .struct-told .given .1 .1 .1 .0 .1) (value1 .value-or-zero .ensures) (cts1 .cts .ensures) (f .coefficient) (f .measure) in
+    let prover = cts-at (cts2 .cts2 .result) (s .args .metal) (fill .prover) (cts2 .before .struct-told2 .given .1 .1 .0 .1) (value2 .value-or-zero2 .ensures) (cts2 .cts2 .ensures) (s .pre .0) (f .prover) in
+    let factor = ratio .round-or-zero .ensures ∙ ccts-value (s .args .metal) fill (s .pre .0) (s .pre .1) measure prover in
+    let all = c .round-or-zero2 .ensures ∙ drawn-value (s .args .metal) fill (s .pre .0) (s .pre .1) (volume .adjust .ensures) factor in
     λ i. record { adjusted = volume .adjust .ensures i; measure = measure i; prover = prover i; ccts = factor i; drawn = all i }
 
 pub work-out-spec : {M : Type 1} → statement M
 work-out-spec =
     tie.close
     (tie.spec (λ c κs. search needs) (λ c κs. search needs) (λ c κs. search needs) (λ c. search needs) (λ c κs. search needs) (λ c κs. search needs)
-    (λ c. search needs) (λ c κs. search needs) (λ c κs. search needs) (λ c. search needs) mul-expanded (λ c κs. search needs) (λ c κs. search needs)
-    returns)
+    (λ c. search needs) (λ c κs. search needs) (λ c. search needs) mul-expanded (λ c κs. search needs) returns)

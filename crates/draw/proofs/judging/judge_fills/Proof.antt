@@ -5,7 +5,8 @@ use native.Mathlib.Omega.{arith}
 use borrow.Author.Needs.{needs}
 use Rattle.octets.proofs.FirstToLast.{faults, start, next, done, scan-hit}
 use Rattle.octets.specs.FirstToLast.{scan}
-use Rattle.draw.specs.Answers.{faultOf, fillFault}
+use Rattle.refusals.specs.Verdict.{faultOf}
+use Rattle.draw.specs.Answers.{fillFault}
 use Rattle.draw.proofs.judging.judge_fills.Statement.{statement}
 use Rattle.draw.proofs.judging.judge_fills.Tie as tie
 
@@ -26,9 +27,6 @@ returns c =
     let a = l .before .before .args in
     sym (scan-hit (fillFault (a .s .now)) (a .fills) (l .loop .i) (omega arith) (sym (j .judge-fill .ensures) ∙ ap faultOf (v .verdict .given .1)) (l .loop .inv))
 
-enum-told : tie.Need-enum-told Inv-loop μ-loop
-enum-told c = search needs
-
 loop-again : tie.Need-loop-again Inv-loop μ-loop
 loop-again c =
     let j = c .before .before in
@@ -45,4 +43,5 @@ returns-2 c =
 pub judge-fills-spec : {M : Type 1} → statement M
 judge-fills-spec =
     tie.close
-    (tie.spec Inv-loop μ-loop loop-holds (search needs) (search needs) returns enum-told (search needs) (λ c. omega arith) loop-again returns-2)
+    (tie.spec Inv-loop μ-loop loop-holds (search needs) (search needs) returns (λ c. search needs) (search needs) (λ c. omega arith) loop-again
+    returns-2)

@@ -2,7 +2,7 @@
 use mathlib.Core.Path.{ap, _∙_}
 use native.Mathlib.Omega.{arith}
 use borrow.Author.Needs.{needs}
-use Rattle.draw.specs.Fill.{fieldsOk}
+use Rattle.draw.specs.Fill.{fillOk}
 use Rattle.draw.specs.Drawn.{figuresOf}
 use Rattle.draw.specs.declared.FillFigures.{FillFigures}
 use Rattle.draw.proofs.Magnitudes.{drawn-most}
@@ -11,7 +11,7 @@ use Rattle.draw.proofs.passing.add_to_pass.Statement.{statement}
 use Rattle.draw.proofs.passing.add_to_pass.Tie as tie
 
 work-out-requires : tie.Need-work-out-requires
-work-out-requires c κs = let r = c .before .before in let s = r .before .before in (s .pre .1, ap fieldsOk (r .read .ensures) ∙ s .pre .2)
+work-out-requires c κs = let r = c .before .before in let s = r .before .before in (s .pre .1, ap fillOk (r .decode .ensures) ∙ s .pre .2)
 
 returns : tie.Need-returns
 unfolding figuresOf
@@ -20,10 +20,10 @@ returns c =
     let s = r .before .before in
     let a = s .args in
     let drew = ap (λ (f : FillFigures). f .drawn) (c .work-out .ensures) in
-    (adds (a .s .now) (a .i) (r .read .ensures) (a .metal) (c .before .if1 .taken) drew, omega (arith, drew, drawn-most (a .metal) (r .read .result) (s .pre .1) (ap fieldsOk (r .read .ensures) ∙ s .pre .2)))
+    (adds (a .s .now) (a .i) (r .decode .ensures) (a .metal) (c .before .if1 .taken) drew, omega (arith, drew, drawn-most (a .metal) (r .decode .result) (s .pre .1) (ap fillOk (r .decode .ensures) ∙ s .pre .2)))
 
 returns-2 : tie.Need-returns-2
-returns-2 c = let r = c .before .before in let a = r .before .before .args in (adds-nothing (a .s .now) (a .i) (r .read .ensures) (a .metal) (a .pass) (c .if1 .left), omega arith)
+returns-2 c = let r = c .before .before in let a = r .before .before .args in (adds-nothing (a .s .now) (a .i) (r .decode .ensures) (a .metal) (a .pass) (c .if1 .left), omega arith)
 
 pub add-to-pass-spec : {M : Type 1} → statement M
 add-to-pass-spec = tie.close (tie.spec (search needs) work-out-requires returns returns-2)

@@ -8,7 +8,8 @@ use Rattle.ranges.specs.Table.{pressureOk}
 use Rattle.octets.specs.FirstToLast.{placeIf, firstPlace}
 use Rattle.octets.proofs.FirstToLast.{places, start, done, place-hit, place-next}
 use Rattle.draw.specs.Fill.{fillAt}
-use Rattle.draw.specs.Passes.{fillsIn, passPressure, pressureAt, isOf}
+use Rattle.octets.specs.Records.{recordsIn}
+use Rattle.draw.specs.Passes.{passPressure, pressureAt, isOf}
 use Rattle.draw.specs.declared.FillRecord.{FillRecord}
 use Rattle.draw.proofs.Fields.{fields}
 use Rattle.draw.proofs.Volumes.{of-pass, not-of-pass}
@@ -24,33 +25,33 @@ abbrev μ-loop : tie.MeasureT-loop
 loop-holds : tie.Need-loop-holds Inv-loop μ-loop
 loop-holds c = start places (placeIf (isOf (c .before .args .s .now) (c .before .args .pass))) (length (c .before .args .s .now) / 32)
 
-read-requires : tie.Need-read-requires Inv-loop μ-loop
-unfolding fillsIn
-read-requires c κs = let s = c .before .before .before in omega (arith, s .pre .0)
+decode-requires : tie.Need-decode-requires Inv-loop μ-loop
+unfolding recordsIn
+decode-requires c κs = let s = c .before .before .before in omega (arith, s .pre .0)
 
 returns : tie.Need-returns Inv-loop μ-loop
-unfolding passPressure fillsIn
+unfolding passPressure recordsIn
 returns c =
-    let r = c .before .before in
-    let l = r .before .before in
+    let d = c .before .before in
+    let l = d .before .before in
     let s = l .before .before in
     let a = s .args in
     let h : l .loop .i < length (a .s .now) / 32 = omega arith in
-    (ap (λ (f : FillRecord). f .pressure) (r .read .ensures) ∙ sym (ap (pressureAt (a .s .now)) (place-hit (isOf (a .s .now) (a .pass)) (length (a .s .now) / 32) (l .loop .i) h (of-pass (a .s .now) (l .loop .i) (r .read .ensures) (c .if1 .taken)) (l .loop .inv))), ap (λ (f : FillRecord). pressureOk (f .pressure)) (r .read .ensures) ∙ fields (fillAt (a .s .now) (l .loop .i)) (s .pre .1 (l .loop .i) h) .pressure)
+    (ap (λ (f : FillRecord). f .pressure) (d .decode .ensures) ∙ sym (ap (pressureAt (a .s .now)) (place-hit (isOf (a .s .now) (a .pass)) (length (a .s .now) / 32) (l .loop .i) h (of-pass (a .s .now) (l .loop .i) (d .decode .ensures) (c .if1 .taken)) (l .loop .inv))), ap (λ (f : FillRecord). pressureOk (f .pressure)) (d .decode .ensures) ∙ fields (fillAt (a .s .now) (l .loop .i)) (s .pre .1 (l .loop .i) h) .pressure)
 
 loop-again : tie.Need-loop-again Inv-loop μ-loop
 loop-again c =
-    let r = c .before .before in
-    let l = r .before .before in
+    let d = c .before .before in
+    let l = d .before .before in
     let a = l .before .before .args in
-    place-next (isOf (a .s .now) (a .pass)) (length (a .s .now) / 32) (l .loop .i) (omega arith) (not-of-pass (a .s .now) (l .loop .i) (r .read .ensures) (a .pass) (c .if1 .left)) (l .loop .inv)
+    place-next (isOf (a .s .now) (a .pass)) (length (a .s .now) / 32) (l .loop .i) (omega arith) (not-of-pass (a .s .now) (l .loop .i) (d .decode .ensures) (a .pass) (c .if1 .left)) (l .loop .inv)
 
 returns-2 : tie.Need-returns-2 Inv-loop μ-loop
-unfolding passPressure fillsIn pressureOk
+unfolding passPressure recordsIn pressureOk
 returns-2 c =
     let l = c .before in
     let a = l .before .before .args in
     (sym (ap (pressureAt (a .s .now)) (done places (placeIf (isOf (a .s .now) (a .pass))) (length (a .s .now) / 32) (l .loop .i) (omega arith) (l .loop .inv))), refl)
 
 pub find-pressure-spec : {M : Type 1} → statement M
-find-pressure-spec = tie.close (tie.spec Inv-loop μ-loop loop-holds read-requires returns (search needs) (λ c. omega arith) loop-again returns-2)
+find-pressure-spec = tie.close (tie.spec Inv-loop μ-loop loop-holds decode-requires returns (search needs) (λ c. omega arith) loop-again returns-2)

@@ -1,4 +1,4 @@
--- `draw::fills::read` meets its contract: each field is what stands at its place.
+-- `draw::fills::decode` meets its contract: each field is what stands at its place.
 use mathlib.Core.Path.{_≡_, _∙_}
 use Prim.Native.Nat.{_<_}
 use borrow.Author.Needs.{needs}
@@ -8,8 +8,8 @@ use mir.Syntax.{w16}
 use mir.Val.{toZ, ofZ}
 use Rattle.draw.specs.Fill.{fillAt, fillFrom}
 use Rattle.ranges.proofs.Counted.{passed-on}
-use Rattle.draw.proofs.fills.read.Statement.{statement}
-use Rattle.draw.proofs.fills.read.Tie as tie
+use Rattle.draw.proofs.fills.decode.Statement.{statement}
+use Rattle.draw.proofs.fills.decode.Tie as tie
 
 -- a signed number that is passed on comes back
 same : {z r : ℤ} → mag r < 32768 → r ≡ z → toZ w16 (ofZ w16 r) ≡ z
@@ -35,8 +35,8 @@ returns c =
       pressure = c .word-at2 .ensures i;
     }
 
-pub read-spec : {M : Type 1} → statement M
-read-spec =
+pub decode-spec : {M : Type 1} → statement M
+decode-spec =
     tie.close
     (tie.spec (search needs) (search needs) (search needs) (search needs) (search needs) (search needs) (search needs) (search needs) (search needs)
     (search needs) (search needs) (search needs) (search needs) (search needs) (search needs) (search needs) returns)
