@@ -1,12 +1,13 @@
 -- What number a single's bits stand for, by its field of 8.
 use mathlib.Core.Path.{_≡_, refl, sym, ap, _∙_, subst}
 use mathlib.Core.Bool.{Bool, true, false, cond}
+use mathlib.Core.Logic.{by-cases}
 use Prim.Native.Nat.{ℕ, zero, suc, _+_, _-_, _*_, _/_, _%_, _^_, _≤_, _<_}
-use native.Mathlib.Nat.{mul-assoc, mul-right-comm, mod-lt, le-of-suc-le-suc, eq-of-mul-eq-mul-right}
+use native.Mathlib.Nat.{mul-assoc, mul-right-comm, mod-lt, le-of-suc-le-suc, le-antisymm, lt-of-not-le, eq-of-mul-eq-mul-right}
 use native.Mathlib.Omega.{arith}
-use borrow.Author.Tests.{ne-eqb}
-use lib.Arith.{lt-of-le-ne}
-use lib.Dec.{leb, eqb, lit<}
+use native.Mathlib.Decide.{decLe}
+use borrow.Author.Tests.{ne-eqb, lt-ltb, le-ltb}
+use lib.Dec.{leb, ltb, eqb, lit<}
 use lib.Ieee.{Float, nan, inf, fin, binary32, up, down, ofFields, ofBits}
 use lib.Ieee.Exact.{HasValue, odd-sign}
 use lib.Ieee.Scale.{finite}
@@ -35,7 +36,7 @@ ones-not-finite s t = go (eqb t 0)
     go true = refl
     go false = refl
 
-pub field-ones : (b : ℕ) → fieldOf b ≡ 255 → finite (ofBits binary32 b) ≡ false
+field-ones : (b : ℕ) → fieldOf b ≡ 255 → finite (ofBits binary32 b) ≡ false
 field-ones b h =
     ap finite (by-fields b ∙ ap (λ (f : ℕ). ofFields binary32 (belowOf b) f (digitsOf b)) h)
     ∙ ones-not-finite (belowOf b) (digitsOf b)
@@ -51,7 +52,7 @@ unfolding ofFields
 bare s t = odd-sign 24 s t 0 149
 
 -- what has a value is finite, and the fraction may be cut down
-pub value-finite : (x : Float) (s : Bool) (a c : ℕ) → HasValue x s a c → finite x ≡ true
+value-finite : (x : Float) (s : Bool) (a c : ℕ) → HasValue x s a c → finite x ≡ true
 value-finite nan s a c v = absurd v
 value-finite (inf t) s a c v = absurd v
 value-finite (fin t m e) s a c v = refl
@@ -96,6 +97,16 @@ field-large b l h = go (fieldOf b) refl l h
 pub bare-value : (b : ℕ) → fieldOf b ≡ 0 → HasValue (ofBits binary32 b) (belowOf b) (digitsOf b * 1) (2 ^ 149)
 bare-value b h = rw (by-fields b, h) (bare (belowOf b) (digitsOf b))
 
--- a field of 8 bits that is not 255 is under it
-pub under-ones : (b : ℕ) → (fieldOf b ≡ 255 → ⊥) → fieldOf b < 255
-under-ones b h = lt-of-le-ne (le-of-suc-le-suc {m = 255} (mod-lt (b / 8388608) (lit< tt))) h
+-- a single is finite where its field is not 255
+field-finite : (b : ℕ) → fieldOf b < 255 → finite (ofBits binary32 b) ≡ true
+field-finite b h = go (fieldOf b) refl h
+  where
+    go : (f : ℕ) → fieldOf b ≡ f → f < 255 → finite (ofBits binary32 b) ≡ true
+    go zero e l = value-finite (ofBits binary32 b) (belowOf b) (digitsOf b * 1) (2 ^ 149) (bare-value b e)
+    go (suc f) e l = value-finite (ofBits binary32 b) (belowOf b) ((8388608 + digitsOf b) * 2 ^ f) (2 ^ 149) (leading-value b f e l)
+
+pub finite-by-field : (b : ℕ) → ltb (fieldOf b) 255 ≡ finite (ofBits binary32 b)
+finite-by-field b =
+    by-cases (decLe 255 (fieldOf b))
+    (λ ones. le-ltb (fieldOf b) 255 ones ∙ sym (field-ones b (le-antisymm (le-of-suc-le-suc {m = 255} (mod-lt (b / 8388608) (lit< tt))) ones)))
+    (λ less. lt-ltb (fieldOf b) 255 (lt-of-not-le less) ∙ sym (field-finite b (lt-of-not-le less)))

@@ -1,7 +1,7 @@
-pub mod Figures
 pub mod Sides
 pub mod Rounding
 pub mod Value
 pub mod Fields
 pub mod Laws
+pub mod Words
 pub mod Answers

@@ -1,7 +1,7 @@
 -- o + k·x depends on the number alone, not on the fraction that it is written as; and its two ends:
 -- a number so near to zero that o is left, and whole numbers, which need no rounding.
 use mathlib.Core.Path.{_≡_, sym, ap, _∙_}
-use mathlib.Core.Bool.{Bool, true, false}
+use mathlib.Core.Bool.{Bool, true, false, true≢false}
 use Prim.Native.Nat.{ℕ, zero, suc, _+_, _-_, _*_, _≤_, _<_}
 use native.Mathlib.Nat.{mul-comm, mul-assoc, mul-right-comm, add-mul, mul-sub, mul-pos, mul-le-mul-right, mul-lt-mul-of-pos-right, suc-mul, lt-of-not-le}
 use native.Mathlib.Decide.{decLe}
@@ -10,32 +10,34 @@ use lib.Dec.{lit<}
 use lib.IntN.{ℤ, pos, _+ℤ_, _*ℤ_}
 use lib.Ieee.{Float, nan, inf, fin, up, down}
 use lib.Ieee.Exact.{HasValue}
+use lib.Ieee.Scale.{finite}
 use lib.Ieee.Fits.{down-pos}
+use Rattle.exact.specs.Rounding.{roundedDiv}
+use Rattle.exact.proofs.Rounding.{nearest-only, cancelled}
 use Rattle.live.specs.Exact.{sided, numerator, denominator}
-use Rattle.live.specs.Nearest.{nearest, awayFromZero}
+use Rattle.live.specs.Rounding.{awayFromZero}
 use Rattle.live.specs.Live.{wholeOf}
 use Rattle.live.proofs.Sides.{times-sided, add-reaching, add-passing}
-use Rattle.live.proofs.Rounding.{Nearest, nearest-scale, nearest-only, away-sided, away-whole, away-nearest, away-only}
+use Rattle.live.proofs.Rounding.{Nearest, away-sided, away-whole, away-nearest, away-only}
 
 sub-mul : (a b c : ℕ) → (a - b) * c ≡ a * c - b * c
 sub-mul a b c = mul-comm (a - b) c ∙ mul-sub c a b ∙ (λ i. mul-comm c a i - mul-comm c b i)
 
 -- (a ± b) / d, rounded
 unfoldable pub summed : ℕ → Bool → ℕ → ℕ → ℤ
-unfolding awayFromZero
 summed a s b d = awayFromZero (pos a +ℤ sided s b) d
 
 -- the sum by its side and size, rounded: it stays above zero, comes down to it, or passes it
 module _ (a b : ℕ) {d : ℕ} (h : 0 < d) where
-  pub summed-above : summed a false b d ≡ sided false (nearest (a + b) d)
+  pub summed-above : summed a false b d ≡ sided false (roundedDiv (a + b) d)
   unfolding summed
   summed-above = away-sided false (a + b) h
 
-  pub summed-reaching : b ≤ a → summed a true b d ≡ sided false (nearest (a - b) d)
+  pub summed-reaching : b ≤ a → summed a true b d ≡ sided false (roundedDiv (a - b) d)
   unfolding summed
   summed-reaching r = rw (add-reaching a b r) (away-sided false (a - b) h)
 
-  pub summed-passing : a < b → summed a true b d ≡ sided true (nearest (b - a) d)
+  pub summed-passing : a < b → summed a true b d ≡ sided true (roundedDiv (b - a) d)
   unfolding summed
   summed-passing r = rw (add-passing a b r) (away-sided true (b - a) h)
 
@@ -43,18 +45,18 @@ module _ (a b : ℕ) {d : ℕ} (h : 0 < d) where
 pub summed-scale : (a : ℕ) (s : Bool) (b : ℕ) {d c : ℕ} → 0 < d → 0 < c → summed (a * c) s (b * c) (d * c) ≡ summed a s b d
 summed-scale a false b {d} {c} hd hc =
     summed-above (a * c) (b * c) (mul-pos hd hc)
-    ∙ ap pos (ap (λ (n : ℕ). nearest n (d * c)) (sym (add-mul a b c)) ∙ nearest-scale (a + b) d hc)
+    ∙ ap pos (ap (λ (n : ℕ). roundedDiv n (d * c)) (sym (add-mul a b c)) ∙ cancelled (a + b) d hc)
     ∙ sym (summed-above a b hd)
 summed-scale a true b {d} {c} hd hc = go (decLe b a)
   where
     go : Dec (b ≤ a) → summed (a * c) true (b * c) (d * c) ≡ summed a true b d
     go (yes r) =
         summed-reaching (a * c) (b * c) (mul-pos hd hc) (mul-le-mul-right c r)
-        ∙ ap (sided false) (ap (λ (n : ℕ). nearest n (d * c)) (sym (sub-mul a b c)) ∙ nearest-scale (a - b) d hc)
+        ∙ ap (sided false) (ap (λ (n : ℕ). roundedDiv n (d * c)) (sym (sub-mul a b c)) ∙ cancelled (a - b) d hc)
         ∙ sym (summed-reaching a b hd r)
     go (no r) =
         summed-passing (a * c) (b * c) (mul-pos hd hc) (mul-lt-mul-of-pos-right (lt-of-not-le r) hc)
-        ∙ ap (sided true) (ap (λ (n : ℕ). nearest n (d * c)) (sym (sub-mul b a c)) ∙ nearest-scale (b - a) d hc)
+        ∙ ap (sided true) (ap (λ (n : ℕ). roundedDiv n (d * c)) (sym (sub-mul b a c)) ∙ cancelled (b - a) d hc)
         ∙ sym (summed-passing a b hd (lt-of-not-le r))
 
 -- o + k·x at any fraction that is x
@@ -90,20 +92,27 @@ module _ (o k : ℕ) (x : Float) where
   unfolding wholeOf
   whole-only z r = away-only _ (denominator x) z (denominator-pos x) r
 
+-- of what is not finite o is left
+pub whole-of-none : (o k : ℕ) (x : Float) → finite x ≡ false → wholeOf o k x ≡ pos o
+unfolding wholeOf numerator denominator
+whole-of-none o k nan h = away-whole (pos (o * 1 + k * 0)) ∙ ap pos (omega arith)
+whole-of-none o k (inf s) h = away-whole (pos (o * 1 + k * 0)) ∙ ap pos (omega arith)
+whole-of-none o k (fin s m e) h = absurd (true≢false h)
+
 -- b / d is under a half: what is left is o
 pub summed-near : (o : ℕ) (s : Bool) (b : ℕ) {d : ℕ} → 2 * b < d → summed (o * d) s b d ≡ pos o
 summed-near o false b {d} h =
-    summed-above (o * d) b (omega arith) ∙ ap pos (nearest-only (o * d + b) d (omega arith) o (omega arith) (omega arith))
+    summed-above (o * d) b (omega arith) ∙ ap pos (nearest-only (record { low = omega arith; high = omega arith }))
 summed-near o true b {d} h = go o (decLe b (o * d))
   where
     go : (o : ℕ) → Dec (b ≤ o * d) → summed (o * d) true b d ≡ pos o
     go o (yes r) =
         summed-reaching (o * d) b (omega arith) r
-        ∙ ap pos (nearest-only (o * d - b) d (omega arith) o (omega arith) (omega arith))
+        ∙ ap pos (nearest-only (record { low = omega arith; high = omega arith }))
     go zero (no r) =
         let l : 0 * d < b = lt-of-not-le r in
         summed-passing (0 * d) b (omega arith) l
-        ∙ ap (sided true) (nearest-only (b - 0 * d) d (omega arith) 0 (omega arith) (omega arith))
+        ∙ ap (sided true) (nearest-only {q = 0} (record { low = omega arith; high = omega arith }))
     go (suc o) (no r) =
         let l : suc o * d < b = lt-of-not-le r in
         absurd (omega (arith, suc-mul o d))

@@ -1,3 +1,4 @@
 pub mod Exact
-pub mod Nearest
+pub mod Rounding
 pub mod Live
+pub mod Word

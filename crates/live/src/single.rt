@@ -1,26 +1,20 @@
 // One single of a reading: o + k·x, x the exact number in the single's bits, to the nearest whole
-// number, halves away from zero, judged in a range. The bits of a single are its side of zero, a
-// field of 8 and 23 digits: from field 1 to 254 the number is (2^23 + digits) · 2^(field - 150).
-ghost use mathlib.Core.Bool.{true};
+// number, halves away from zero. The bits of a single are its side of zero, a field of 8 and 23
+// digits: from field 1 to 254 the number is (2^23 + digits) · 2^(field - 150).
 ghost use mathlib.Core.Path.{_≡_};
 ghost use Prim.Native.Nat.{_/_, _%_, _^_, _≤_, _<_};
-ghost use lib.IntN.{pos, negsuc, _+ℤ_};
-ghost use lib.Signed.{leZ};
+ghost use lib.IntN.{pos, _+ℤ_};
 ghost use lib.Ieee.{binary32, ofBits};
+ghost use lib.Ieee.Scale.{finite};
+ghost use Rattle.exact.specs.Rounding.{roundedDiv};
 ghost use Rattle.live.specs.Exact.{sided};
-ghost use Rattle.live.specs.Nearest.{nearest};
-ghost use Rattle.live.specs.Live.{wholeOf, wholeIn, singleOf, singleTold};
-use refusals::Refusal;
+ghost use Rattle.live.specs.Live.{wholeOf};
+ghost use Rattle.live.specs.Word.{inWord};
 
 // 2^23, the weight of the field, and 2^31, the weight of the side of zero.
 const FIELD: u32 = 8388608;
 
 const SIDE: u32 = 2147483648;
-
-pub enum Judged {
-    Within(i16),
-    Refusing(Refusal),
-}
 
 // A whole number by its side of zero and its size.
 struct Sided {
@@ -38,7 +32,7 @@ fn raise_two(exponent: u32) -> u64
 // A half counts as more than a half, so that it goes up.
 fn round_half_up(top: u64, bottom: u64) -> u64
     requires { ⌜ (0 < bottom) × (bottom ≤ 2 ^ 40) ⌝ }
-    ensures { λ r. ⌜ r ≡ nearest top bottom ⌝ }
+    ensures { λ r. ⌜ r ≡ roundedDiv top bottom ⌝ }
 {
     let whole = top / bottom;
     let rest = top % bottom;
@@ -100,42 +94,41 @@ fn round_scaled(bits: u32, offset: u16, times: u16) -> Sided
     }
 }
 
-// A range of 16 bits ends at 32767 on either side.
-fn judge_whole(whole: Sided, low: i16, high: i16) -> Judged
-    requires { ⌜ leZ (negsuc 32766) low ≡ true ⌝ }
-    ensures { λ r. ⌜ singleTold r ≡ wholeIn low high (sided (whole .below) (whole .size)) ⌝ }
+// No range reaches 32767, on either side.
+fn to_word(whole: Sided) -> i16
+    ensures { λ r. ⌜ r ≡ inWord (sided (whole .below) (whole .size)) ⌝ }
 {
     let size = whole.size;
-    if 32767 < size {
-        return Judged::Refusing(Refusal::ReadingRange);
+    if 32767 <= size {
+        return 32767;
     }
     let magnitude = size as i16;
     let below = whole.below;
-    let value = if below { -magnitude } else { magnitude };
-    if ranges::is_within_signed(value, low, high) {
-        Judged::Within(value)
-    } else {
-        Judged::Refusing(Refusal::ReadingRange)
-    }
+    if below { -magnitude } else { magnitude }
 }
 
-// From field 150 on the size of x is 2^23 or more, and o is under 2^16: no range reaches so far.
-pub(crate) fn judge(x: f32, offset: u16, times: u16, low: i16, high: i16) -> Judged
-    requires { ⌜ 0 < times ⌝ }
-    requires { ⌜ leZ (negsuc 32766) low ≡ true ⌝ }
-    ensures { λ r. ⌜ singleTold r ≡ singleOf offset times low high x ⌝ }
+pub(crate) fn is_finite(x: f32) -> bool
+    ensures { λ r. ⌜ r ≡ finite x ⌝ }
 {
     // Only a NaN differs from itself; its bits are no number's.
     if x != x {
-        return Judged::Refusing(Refusal::ReadingNotFinite);
+        return false;
     }
-    let bits = f32::to_bits(x);
-    let field = bits / FIELD % 256;
-    if field == 255 {
-        return Judged::Refusing(Refusal::ReadingNotFinite);
+    f32::to_bits(x) / FIELD % 256 < 255
+}
+
+// What is not finite holds no number, and o is left. From field 150 on the size of x is 2^23 or more,
+// and o is under 2^15: no range reaches so far.
+pub(crate) fn round(x: f32, offset: u16, times: u16) -> i16
+    requires { ⌜ (offset < 32767) × (0 < times) ⌝ }
+    ensures { λ r. ⌜ r ≡ inWord (wholeOf offset times x) ⌝ }
+{
+    if is_finite(x) {
+        let bits = f32::to_bits(x);
+        if bits / FIELD % 256 < 150 {
+            return to_word(round_scaled(bits, offset, times));
+        }
+        return 32767;
     }
-    if 150 <= field {
-        return Judged::Refusing(Refusal::ReadingRange);
-    }
-    judge_whole(round_scaled(bits, offset, times), low, high)
+    offset as i16
 }

@@ -1,61 +1,96 @@
--- `live::convert` meets its contract: the temperature's answer comes first, then the pressure's; both whole numbers are the reading's.
+-- `live::convert` meets its contract: the two singles are judged in order, and what was judged fine is the whole number itself.
 use mathlib.Core.Path.{_≡_, sym, ap, _∙_}
-use lib.IntN.{ℤ, pos, natAbs}
+use mathlib.Core.Bool.{Bool, true}
+use native.Mathlib.Omega.{arith}
+use lib.IntN.{natAbs}
+use lib.Ieee.{Float}
+use lib.Ieee.Scale.{finite}
 use mir.Syntax.{w16}
 use mir.Val.{toZ, ofZ}
-use native.Mathlib.Omega.{arith}
 use borrow.Author.Needs.{needs}
-use Rattle.refusals.specs.Told.{done}
-use Rattle.live.specs.Live.{told, singleTold}
-use Rattle.live.proofs.Answers.{temperatureSingle, pressureSingle, live-temperature, live-pressure, live-done, pressure-unsigned}
+use Rattle.ranges.specs.Table.{temperatureOk}
+use Rattle.refusals.specs.Told.{Fault, fine, done, demand, orElse}
+use Rattle.refusals.specs.Verdict.{faultOf}
+use Rattle.refusals.proofs.Laws.{judged-fine, judged-fault, orElse-fine-first, orElse-fine-next}
+use Rattle.live.specs.Live.{wholeOf, psiOk, told}
+use Rattle.live.proofs.Answers.{singleFault, was-in-range, live-judged}
+use Rattle.live.proofs.Words.{temperature-reach, psi-reach, judged-by-word, word-in-range, psi-unsigned}
 use Rattle.live.proofs.convert.Statement.{statement}
 use Rattle.live.proofs.convert.Tie as tie
 
--- the singles' answers at the arm where both have a whole number
-temperature-done : (c : tie.After-known-told4) → temperatureSingle (c .before .before .before .before .before .before .before .before .args .reading .temperature) ≡ done (c .before .before .before .before .temperature2 .given .0 .0)
-unfolding singleTold
-temperature-done c =
-    let t = c .before .before .before .before in
-    sym (t .before .before .before .judge .ensures) ∙ ap singleTold (t .temperature2 .given .1)
+abbrev rounds : tie.After-or-else → tie.After-round2
+rounds c = c .before .before .before .before .before
 
-pressure-done : (c : tie.After-known-told4) → pressureSingle (c .before .before .before .before .before .before .before .before .args .reading .pressure) ≡ done (c .before .pressure2 .given .0 .0)
-unfolding singleTold
-pressure-done c = sym (c .before .before .before .before .before .before .judge2 .ensures) ∙ ap singleTold (c .before .pressure2 .given .1)
+abbrev temperature : tie.After-round2 → Float
+temperature c = c .before .before .args .reading .temperature
+
+abbrev pressure : tie.After-round2 → Float
+pressure c = c .before .before .args .reading .pressure
+
+-- what judging each single finds
+abbrev first : tie.After-round2 → Fault
+first c = singleFault temperatureOk (wholeOf 0 10 (temperature c)) (temperature c)
+
+abbrev next : tie.After-round2 → Fault
+next c = singleFault psiOk (wholeOf 0 1 (pressure c)) (pressure c)
 
 -- what the machine reads back of a signed number is that number
-tenths-back : (c : tie.After-known-told4) → toZ w16 (ofZ w16 (c .before .before .before .before .temperature2 .given .0 .0)) ≡ c .before .before .before .before .temperature2 .given .0 .0
+tenths-back : (c : tie.After-round2) → toZ w16 (ofZ w16 (c .before .round .result)) ≡ c .before .round .result
 tenths-back c = search needs
 
-psi-back : (c : tie.After-known-told4) → toZ w16 (ofZ w16 (c .before .pressure2 .given .0 .0)) ≡ c .before .pressure2 .given .0 .0
+psi-back : (c : tie.After-round2) → toZ w16 (ofZ w16 (c .round2 .result)) ≡ c .round2 .result
 psi-back c = search needs
+
+judged-by : (c : tie.After-or-else) → faultOf (c .or-else .result) ≡ orElse (first (rounds c)) (next (rounds c))
+judged-by c =
+    let psi = c .before .before in
+    let tenths = psi .before .before in
+    let r = rounds c in
+    let warm : tenths .is-temperature .result ≡ temperatureOk (wholeOf 0 10 (temperature r)) = tenths .is-temperature .ensures ∙ ap temperatureOk (tenths-back r ∙ r .before .round .ensures) ∙ judged-by-word temperatureOk temperature-reach (wholeOf 0 10 (temperature r)) in
+    let pressed : psi .is-psi .result ≡ psiOk (wholeOf 0 1 (pressure r)) = psi .is-psi .ensures ∙ ap psiOk (psi-back r ∙ r .round2 .ensures) ∙ judged-by-word psiOk psi-reach (wholeOf 0 1 (pressure r)) in
+    c .or-else .ensures
+    ∙ (λ i. orElse
+    ((psi .before .judge .ensures ∙ ap (λ (ok : Bool). orElse (demand (finite (temperature r)) 12) (demand ok 13)) warm) i)
+    ((c .before .judge2 .ensures ∙ ap (λ (ok : Bool). orElse (demand (finite (pressure r)) 12) (demand ok 13)) pressed) i))
+
+in-order : (c : tie.After-enum-told) → orElse (first (rounds (c .before .before))) (next (rounds (c .before .before))) ≡ fine
+in-order c = sym (judged-by (c .before .before)) ∙ ap faultOf (c .enum-told .given .1)
+
+tenths-is : (c : tie.After-enum-told) → rounds (c .before .before) .before .round .result ≡ wholeOf 0 10 (temperature (rounds (c .before .before)))
+tenths-is c =
+    let r = rounds (c .before .before) in
+    r .before .round .ensures ∙ word-in-range temperatureOk temperature-reach _ (was-in-range temperatureOk (wholeOf 0 10 (temperature r)) (temperature r) (orElse-fine-first (first r) (next r) (in-order c)))
+
+psi-ok : (c : tie.After-enum-told) → psiOk (wholeOf 0 1 (pressure (rounds (c .before .before)))) ≡ true
+psi-ok c =
+    let r = rounds (c .before .before) in
+    was-in-range psiOk (wholeOf 0 1 (pressure r)) (pressure r) (orElse-fine-next (first r) (next r) (in-order c))
+
+psi-is : (c : tie.After-enum-told) → toZ w16 (ofZ w16 (rounds (c .before .before) .round2 .result)) ≡ wholeOf 0 1 (pressure (rounds (c .before .before)))
+psi-is c =
+    let r = rounds (c .before .before) in
+    psi-back r ∙ r .round2 .ensures ∙ word-in-range psiOk psi-reach _ (psi-ok c)
 
 cast-t10 : tie.Need-cast-t10
 cast-t10 c =
-    let psi = pressure-unsigned _ (pressure-done c) in
-    rw (psi-back c) (psi .above, record { fits = omega (arith, psi .small) })
+    let psi = psi-unsigned _ (psi-ok c) in
+    rw (psi-is c) (psi .0, record { fits = omega (arith, psi .1) })
 
 returns : tie.Need-returns
-unfolding told singleTold
+unfolding told
 returns c =
-    let j = c .before .before .before in
-    sym (live-temperature _ _ (sym (j .before .judge .ensures) ∙ ap singleTold (c .before .temperature .given .1)))
+    let r = rounds (c .before .before) in
+    (λ i. done (record { tenths = (tenths-back r ∙ tenths-is c) i; psi = natAbs (psi-is c i) }))
+    ∙ sym (live-judged (temperature r) (pressure r) ∙ judged-fine _ (in-order c))
 
 returns-2 : tie.Need-returns-2
-unfolding told singleTold
-returns-2 c =
-    let t = c .before .before .before .before in
-    let j = t .before .before in
-    sym
-    (live-pressure _ _ (sym (j .before .judge .ensures) ∙ ap singleTold (t .temperature2 .given .1))
-    (sym (j .judge2 .ensures) ∙ ap singleTold (c .before .pressure .given .1)))
-
-returns-3 : tie.Need-returns-3
 unfolding told
-returns-3 c =
-    (λ i. done (record { tenths = tenths-back c i; psi = (ap (λ (z : ℤ). pos (natAbs z)) (psi-back c) ∙ pressure-unsigned _ (pressure-done c) .same) i }))
-    ∙ sym (live-done _ _ (temperature-done c) (pressure-done c))
+returns-2 c =
+    let j = c .before .before .before in
+    sym (live-judged (temperature (rounds j)) (pressure (rounds j)) ∙ judged-fault _ (sym (judged-by j) ∙ ap faultOf (c .before .refusal .given .1)))
 
 pub convert-spec : {M : Type 1} → statement M
 convert-spec =
     tie.close
-    (tie.spec (search needs) (search needs) (search needs) (search needs) (search needs) (search needs) cast-t10 returns returns-2 returns-3)
+    (tie.spec (search needs) (search needs) (search needs) (search needs) (search needs) (search needs) (search needs) (λ c. search needs) cast-t10
+    (search needs) returns returns-2)
