@@ -4,6 +4,7 @@ use Prim.Native.Nat.{ℕ}
 use lib.Dec.{eqb}
 use Rattle.factors.specs.Metal.{metalBy}
 use Rattle.factors.specs.declared.Pipe.{Pipe}
+use Rattle.factors.specs.declared.Liquid.{Liquid}
 use Rattle.factors.specs.declared.Places.{Places}
 use Rattle.factors.specs.declared.Places.the-variants.{Four, Six}
 use Rattle.factors.specs.declared.Prover.{Prover}
@@ -19,6 +20,9 @@ placesBy places = cond (eqb places 6) Six Four
 
 abbrev pub pipeBy : ℕ → ℕ → ℕ → Pipe
 pipeBy diameter wall modulus = record { diameter = diameter; wall = wall; modulus = modulus }
+
+abbrev pub liquidBy : ℕ → ℕ → Liquid
+liquidBy pressure compressibility = record { pressure = pressure; compressibility = compressibility }
 
 -- the prover's settings, the metal by its code and its certificate
 abbrev pub proverBy : EndakuroProver → Prover
@@ -40,7 +44,6 @@ ticketBy t =
       closing = t .closing;
       mf = t .mf;
       ctl = t .ctl;
-      pressure = t .pressure;
-      compressibility = t .compressibility;
+      liquid = liquidBy (t .pressure) (t .compressibility);
       sediment = t .sediment;
     }

@@ -3,10 +3,11 @@ ghost use mathlib.Core.Path.{_≡_};
 ghost use Rattle.factors.specs.Answers.{told, ctsOf, cpsOf, cplOf};
 ghost use Rattle.factors.specs.Metal.{metalBy};
 ghost use Rattle.factors.specs.Places.{digits};
-ghost use Rattle.api.specs.Given.{placesBy, pipeBy};
+ghost use Rattle.api.specs.Given.{placesBy, pipeBy, liquidBy};
 ghost use Rattle.api.specs.Flat.{flatFactor};
 use crate::settings;
 use factors::Factor;
+use factors::Liquid;
 use factors::Pipe;
 
 #[repr(C)]
@@ -68,7 +69,11 @@ pub extern "C" fn endakuro_cps(
 // P in psi gage and F in 10^-8 per psi.
 #[no_mangle]
 pub extern "C" fn endakuro_cpl(p: u16, f: u16, places: u8) -> EndakuroFactor
-    ensures { λ r. ⌜ r ≡ flatFactor (cplOf (digits (placesBy places)) f p) ⌝ }
+    ensures { λ r. ⌜ r ≡ flatFactor (cplOf (digits (placesBy places)) (liquidBy p f)) ⌝ }
 {
-    flatten(factors::cpl(p, f, settings::choose_places(places)))
+    let liquid = Liquid {
+        pressure: p,
+        compressibility: f,
+    };
+    flatten(factors::cpl(liquid, settings::choose_places(places)))
 }

@@ -3,7 +3,8 @@ ghost use mathlib.Core.Path.{_≡_};
 ghost use Rattle.ticket.specs.Answers.{told, ticketOf};
 ghost use Rattle.api.specs.Given.{ticketBy};
 ghost use Rattle.api.specs.Flat.{flatVolumes};
-use ticket::Outcome;
+use factors::Liquid;
+use ticket::Measured;
 use ticket::Ticket;
 
 // Readings in 0.01 barrel, the meter factor and CTL in 0.0001, P in psi gage, F in 10^-8 per psi, S in
@@ -29,18 +30,18 @@ pub struct EndakuroVolumes {
     pub net: u32,
 }
 
-fn flatten(outcome: Outcome) -> EndakuroVolumes
-    ensures { λ r. ⌜ r ≡ flatVolumes (told outcome) ⌝ }
+fn flatten(measured: Measured) -> EndakuroVolumes
+    ensures { λ r. ⌜ r ≡ flatVolumes (told measured) ⌝ }
 {
-    match outcome {
-        Outcome::Worked(volumes) => EndakuroVolumes {
+    match measured {
+        Measured::Worked(volumes) => EndakuroVolumes {
             number: 0,
             at: 0,
             factor: volumes.factor,
             gross: volumes.gross,
             net: volumes.net,
         },
-        Outcome::Refused(refusal) => {
+        Measured::Refused(refusal) => {
             let given = refusals::give_back(refusal);
             EndakuroVolumes {
                 number: given.number as u16,
@@ -57,13 +58,16 @@ fn flatten(outcome: Outcome) -> EndakuroVolumes
 pub extern "C" fn endakuro_ticket(given: EndakuroTicket) -> EndakuroVolumes
     ensures { λ r. ⌜ r ≡ flatVolumes (ticketOf (ticketBy given)) ⌝ }
 {
+    let liquid = Liquid {
+        pressure: given.pressure,
+        compressibility: given.compressibility,
+    };
     let ticket = Ticket {
         opening: given.opening,
         closing: given.closing,
         mf: given.mf,
         ctl: given.ctl,
-        pressure: given.pressure,
-        compressibility: given.compressibility,
+        liquid,
         sediment: given.sediment,
     };
     flatten(ticket::work_out(ticket))
