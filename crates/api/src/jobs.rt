@@ -1,7 +1,8 @@
 // 01, 'Proving, by pipe prover', for C.
 ghost use mathlib.Core.Path.{_≡_};
 ghost use lib.ListN.{length};
-ghost use Rattle.report.specs.Judged.{leftBy};
+ghost use Rattle.refusals.specs.Told.{leftBy};
+ghost use Rattle.report.specs.Record.{bytesOfReport};
 ghost use Rattle.run.specs.Answers.{told, shownOf};
 ghost use Rattle.proving.specs.Job.{jobOf, foundOf};
 ghost use Rattle.api.specs.Given.{proverBy};
@@ -49,7 +50,7 @@ pub extern "C" fn endakuro_prove(
     buffer: &mut [u8],
 ) -> EndakuroReport
     ensures answer { λ r. ⌜ r ≡ flatReport (jobOf request (proverBy prover) k limit (now (records .entry)) (length (now (buffer .entry)))) ⌝ }
-    ensures left { λ _. ⌜ now (buffer .exit) ≡ leftBy (jobOf request (proverBy prover) k limit (now (records .entry)) (length (now (buffer .entry)))) (now (buffer .entry)) ⌝ }
+    ensures left { λ _. ⌜ now (buffer .exit) ≡ leftBy (jobOf request (proverBy prover) k limit (now (records .entry)) (length (now (buffer .entry)))) bytesOfReport (now (buffer .entry)) ⌝ }
 {
     let settings = settings::take_up(prover);
     reports::flatten(proving::prove(request, settings, k, limit, records, buffer))

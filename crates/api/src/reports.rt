@@ -1,7 +1,9 @@
 // 01, 'Records', the report, for C.
 ghost use mathlib.Core.Path.{_≡_};
 ghost use lib.ListN.{length};
-ghost use Rattle.report.specs.Judged.{told, writeOf, readOf, leftBy};
+ghost use Rattle.refusals.specs.Told.{leftBy};
+ghost use Rattle.report.specs.Record.{bytesOfReport};
+ghost use Rattle.report.specs.Judged.{told, writeOf, readOf};
 ghost use Rattle.api.specs.Given.{factorsBy};
 ghost use Rattle.api.specs.Flat.{flatReport};
 use report::Answer;
@@ -86,7 +88,7 @@ pub extern "C" fn endakuro_write(
     buffer: &mut [u8],
 ) -> EndakuroReport
     ensures answer { λ r. ⌜ r ≡ flatReport (writeOf (length (now (buffer .entry))) request runs first (factorsBy factors)) ⌝ }
-    ensures left { λ _. ⌜ now (buffer .exit) ≡ leftBy (writeOf (length (now (buffer .entry))) request runs first (factorsBy factors)) (now (buffer .entry)) ⌝ }
+    ensures left { λ _. ⌜ now (buffer .exit) ≡ leftBy (writeOf (length (now (buffer .entry))) request runs first (factorsBy factors)) bytesOfReport (now (buffer .entry)) ⌝ }
 {
     let five = Factors {
         one: factors.f1,

@@ -103,7 +103,7 @@ fn flatten_passes(answer: Counted, volumes: [u64; 20]) -> EndakuroPasses
 // The volumes of all passes. The prover's base volume is not judged here and in the draw.
 #[no_mangle]
 pub extern "C" fn endakuro_passes(prover: EndakuroProver, records: &[u8]) -> EndakuroPasses
-    ensures { λ r. ⌜ r ≡ flatPasses (passesOf (proverBy prover) (now (records .entry))) (heldFor (proverBy prover) (now (records .entry)) (passesOf (proverBy prover) (now (records .entry)))) ⌝ }
+    ensures { λ r. ⌜ r ≡ flatPasses (passesOf (proverBy prover) (now (records .entry))) (heldFor (proverBy prover) (now (records .entry))) ⌝ }
 {
     let found = draw::passes(settings::take_up(prover), records);
     let answer = found.answer;

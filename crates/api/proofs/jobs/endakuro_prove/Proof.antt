@@ -3,7 +3,8 @@ use mathlib.Core.Path.{ap, _∙_}
 use denote.Ref.{now}
 use lib.ListN.{length}
 use Rattle.factors.specs.declared.Prover.{Prover}
-use Rattle.report.specs.Judged.{leftBy}
+use Rattle.refusals.specs.Told.{leftBy}
+use Rattle.report.specs.Record.{bytesOfReport}
 use Rattle.proving.specs.Job.{jobOf}
 use Rattle.api.specs.Flat.{flatReport}
 use borrow.Author.Needs.{needs}
@@ -15,7 +16,7 @@ returns c =
     let w = c .before .before .before in
     let a = w .before .before .before .before .before .args in
     let job = ap (λ (p : Prover). jobOf (a .request) p (a .k) (a .limit) (now (a .records)) (length (now (a .buffer)))) (w .before .before .take-up .ensures) in
-    (c .flatten .ensures ∙ ap flatReport (w .prove .ensures .0 ∙ job), w .prove .ensures .1 ∙ (λ i. leftBy (job i) (now (a .buffer))))
+    (c .flatten .ensures ∙ ap flatReport (w .prove .ensures .0 ∙ job), w .prove .ensures .1 ∙ (λ i. leftBy (job i) bytesOfReport (now (a .buffer))))
 
 pub endakuro-prove-spec : {M : Type 1} → statement M
 endakuro-prove-spec = tie.close (tie.spec (search needs) (search needs) (search needs) (search needs) returns)

@@ -12,7 +12,7 @@ returns : tie.Need-returns
 returns c =
     let p = c .before .before in
     let s = now (p .before .before .before .args .records) in
-    c .flatten-passes .ensures ∙ (λ i. flatPasses (p .passes .ensures .0 i) (p .passes .ensures .1 i)) ∙ ap (λ (p : Prover). flatPasses (passesOf p s) (heldFor p s (passesOf p s))) (p .before .take-up .ensures)
+    c .flatten-passes .ensures ∙ (λ i. flatPasses (p .passes .ensures .0 i) (p .passes .ensures .1 i)) ∙ ap (λ (p : Prover). flatPasses (passesOf p s) (heldFor p s)) (p .before .take-up .ensures)
 
 pub endakuro-passes-spec : {M : Type 1} → statement M
 endakuro-passes-spec = tie.close (tie.spec (search needs) (search needs) (search needs) returns)
