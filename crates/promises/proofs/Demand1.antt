@@ -13,31 +13,35 @@ use lib.Dec.{leb, ltb, eqb}
 use lib.IntN.{ℤ}
 use lib.Ieee.{Float}
 use lib.ListN.{length}
-use Rattle.refusals.specs.Told.{Told, done, refused, Fault, fine, fault}
-use Rattle.ranges.specs.Table.{temperatureOk, pressureOk, compressibilityOk, kFactorOk, limitOk, volumeOk, runFactorOk, passesOk}
+use Rattle.refusals.specs.Told.{Told, refused, leftBy}
+use Rattle.ranges.specs.Table.{temperatureOk, pressureOk, kFactorOk, limitOk, volumeOk, runFactorOk, passesOk, fillsOk}
+use Rattle.octets.specs.Records.{recordsIn, areRecords}
 use Rattle.ranges.specs.Within.{within}
 use Rattle.ranges.proofs.Laws.{within-true}
 use Rattle.factors.specs.Metal.{metalOk}
-use Rattle.factors.specs.Answers.{pipeOk, ctsOf, cpsOf, cplOf}
+use Rattle.factors.specs.Prover.{pipeOk, proverOk}
+use Rattle.factors.specs.Liquid.{liquidOk}
+use Rattle.factors.specs.Answers.{ctsOf, cpsOf, cplOf}
+use Rattle.factors.specs.declared.Liquid.{Liquid}
 use Rattle.factors.specs.declared.Metal.{Metal}
 use Rattle.factors.specs.declared.Pipe.{Pipe}
 use Rattle.factors.specs.declared.Prover.{Prover}
-use Rattle.run.specs.Record.{runAt, fieldsOk, unnamedOk}
+use Rattle.run.specs.Record.{runSize, runAt, runOk, unnamedOk}
 use Rattle.run.specs.Figures.{figuresOf}
-use Rattle.run.specs.Answers.{proverOk, figuresFault, workedOf, shownOf, factorOnly}
+use Rattle.run.specs.Answers.{givenFault, figuresFault, figuresTold, workedOf, shownOf}
 use Rattle.run.specs.declared.Run.{Run}
 use Rattle.run.specs.declared.Figures.{Figures}
 use Rattle.group.specs.Repeatability.{firstGroup}
 use Rattle.report.specs.Record.{listOf}
-use Rattle.report.specs.Judged.{jobOk, isReport, writeOf, readOf, leftBy}
+use Rattle.report.specs.Judged.{jobOk, isReport, writeOf, readOf}
 use Rattle.report.specs.declared.Factors.{Factors}
-use Rattle.report.specs.declared.Report.{Report}
 use Rattle.proving.specs.Judging.{runsIn, sizeOk, settingsFault, recordFault, runFault, inputFault}
-use Rattle.proving.specs.Job.{firstFive, groupFault, foundOf, jobOf, acceptedBy, acceptedOf}
-use Rattle.draw.specs.Fill.{fillAt, fieldsOk as fillFieldsOk, unnamedOk as fillUnnamedOk, ruleOk}
-use Rattle.draw.specs.Passes.{fillsIn, lengthOk, passCount, volumesOf}
-use Rattle.draw.specs.Answers.{recordFault as recordFaultOfFill, fillFault, drawFault, fillOf, passesOf, decidedBy, unless, drawOf}
-use Rattle.ticket.specs.Ranges.{fieldsOk as ticketFieldsOk}
+use Rattle.proving.specs.Job.{firstFive, reportAt, foundOf, jobOf, acceptedBy, acceptedOf}
+use Rattle.draw.specs.Fill.{fillAt, fillOk, unnamedOk as fillUnnamedOk, ruleOk}
+use Rattle.draw.specs.Passes.{passCount, volumesOf}
+use Rattle.draw.specs.Base.{baseOf}
+use Rattle.draw.specs.Answers.{recordFault as recordFaultOfFill, fillFault, drawFault, fillOf, passesOf, drawOf}
+use Rattle.ticket.specs.Ranges.{ticketOk}
 use Rattle.ticket.specs.Answers.{ticketOf}
 use Rattle.ticket.specs.declared.Ticket.{Ticket}
 use Rattle.live.specs.Live.{tenthsOf, psiOf, psiOk, readingFault, temperatureFault, pressureFault, liveOf}
@@ -48,7 +52,7 @@ use Rattle.book.specs.Calls.{callFault, hasRoom, requestFault, requestOf, after
 use Rattle.book.specs.declared.Book.{Book}
 use lib.Ieee.Scale.{finite}
 use Rattle.promises.specs.Ending.{isOneOf, starred, recordOk, refusalOk, Ends}
-use Rattle.promises.proofs.Endings.{Finds, by-demand, by-demandAt, by-orElse, by-scan, by-judged}
+use Rattle.promises.proofs.Endings.{Finds, by-demand, by-demandAt, by-orElse, by-scan, by-unless, by-judged, by-nine}
 
 -- ---- the factors: 3 for a metal or pipe, 5 for a temperature, pressure or F; no records are handed over
 
@@ -60,9 +64,9 @@ pub cps-ends : (d : ℕ) (pipe : Pipe) (p : ℕ) → Ends (3 ∷ 5 ∷ []) 0 0 (
 unfolding cpsOf isOneOf starred recordOk refusalOk
 cps-ends d pipe p = by-judged _ (by-orElse (by-demand (pipeOk pipe) 3 refl) (by-demand (pressureOk p) 5 refl))
 
-pub cpl-ends : (d f p : ℕ) → Ends (5 ∷ []) 0 0 (cplOf d f p)
+pub cpl-ends : (d : ℕ) (liquid : Liquid) → Ends (5 ∷ []) 0 0 (cplOf d liquid)
 unfolding cplOf isOneOf starred recordOk refusalOk
-cpl-ends d f p = by-judged _ (by-demand (pressureOk p && compressibilityOk f) 5 refl)
+cpl-ends d liquid = by-judged _ (by-demand (liquidOk liquid) 5 refl)
 
 -- ---- one run: `at` is the record that the caller names; 'shown' takes one record, which is 1
 
@@ -70,29 +74,25 @@ own-figures : {numbers : List ℕ} {first last : ℕ} (f : Figures) (at : ℕ) �
 unfolding figuresFault
 own-figures f at seven eight = by-orElse (by-demandAt (volumeOk (f .indicated)) 7 at seven) (by-demandAt (runFactorOk (f .factor)) 8 at eight)
 
+given-finds : {numbers : List ℕ} {first last : ℕ} (prover : Prover) (k : ℕ) (run : Run) (at : ℕ) → refusalOk numbers first last 3 0 ≡ true → refusalOk numbers first last 4 0 ≡ true → refusalOk numbers first last 5 at ≡ true
+    → Finds numbers first last (givenFault prover k run at)
+unfolding givenFault
+given-finds prover k run at three four five = by-orElse (by-demand (proverOk prover) 3 three) (by-orElse (by-demand (kFactorOk k) 4 four) (by-demandAt (runOk run) 5 at five))
+
 pub worked-ends : (prover : Prover) (k : ℕ) (run : Run) (at : ℕ) → Ends (3 ∷ 4 ∷ 5 ∷ 7 ∷ 8 ∷ []) at at (workedOf prover k run at)
-unfolding workedOf isOneOf starred recordOk refusalOk
+unfolding workedOf figuresTold isOneOf starred recordOk refusalOk
 worked-ends prover k run at =
     let same : within at at at ≡ true = within-true at at at (omega arith) (omega arith) in
-    by-judged _ (by-orElse (by-demand (proverOk prover) 3 refl) (by-orElse (by-demand (kFactorOk k) 4 refl) (by-orElse (by-demandAt (fieldsOk run) 5 at same) (own-figures (figuresOf prover k run) at same same))))
-
-pub factor-ends : (prover : Prover) (k : ℕ) (run : Run) (at : ℕ) → Ends (3 ∷ 4 ∷ 5 ∷ 7 ∷ 8 ∷ []) at at (factorOnly (workedOf prover k run at))
-factor-ends prover k run at = only (workedOf prover k run at) (worked-ends prover k run at)
-  where
-    only : (t : Told Figures) → Ends (3 ∷ 4 ∷ 5 ∷ 7 ∷ 8 ∷ []) at at t → Ends (3 ∷ 4 ∷ 5 ∷ 7 ∷ 8 ∷ []) at at (factorOnly t)
-    only (done figures) ok = record { gives = tt }
-    only (refused number record-at) ok = record { gives = ok .gives }
+    by-unless (given-finds prover k run at refl refl same) (by-judged _ (own-figures (figuresOf prover k run) at same same))
 
 pub shown-ends : (prover : Prover) (k : ℕ) (s : List ℕ) → Ends (1 ∷ 3 ∷ 4 ∷ 5 ∷ 2 ∷ 7 ∷ 8 ∷ []) 1 1 (shownOf prover k s)
-unfolding shownOf isOneOf starred recordOk refusalOk
+unfolding shownOf figuresTold isOneOf starred recordOk refusalOk
 shown-ends prover k s =
-    by-judged _
-    (by-orElse (by-demand (eqb (length s) 32) 1 refl)
-    (by-orElse (by-demand (proverOk prover) 3 refl)
-    (by-orElse (by-demand (kFactorOk k) 4 refl)
-    (by-orElse (by-demandAt (fieldsOk (runAt s 0)) 5 1 refl)
-    (by-orElse (by-demandAt (unnamedOk s 0) 2 1 refl)
-    (own-figures (figuresOf prover k (runAt s 0)) 1 refl refl))))))
+    by-unless
+    (by-orElse (by-demand (eqb (length s) runSize) 1 refl)
+    (by-orElse (given-finds prover k (runAt runSize s 0) 1 refl refl refl)
+    (by-demandAt (unnamedOk runSize s 0) 2 1 refl)))
+    (by-judged _ (own-figures (figuresOf prover k (runAt runSize s 0)) 1 refl refl))
 
 -- ---- a proving: 'For a job that writes a report: 14, request number zero (22), then 1, 3, 4; then records first to last, each with 5, 2;
 -- then 7 and 8 run by run; then 9', with the record from 1 to the count of records
@@ -109,14 +109,10 @@ module _ {numbers : List ℕ} (prover : Prover) (k limit : ℕ) (s : List ℕ) w
   input-finds : Given numbers (runsIn s) 1 → Given numbers (runsIn s) 3 → Given numbers (runsIn s) 4 → Carried numbers (runsIn s) 5 → Carried numbers (runsIn s) 2 → Carried numbers (runsIn s) 7 → Carried numbers (runsIn s) 8 → Finds numbers 1 (runsIn s) (inputFault prover k limit s)
   unfolding inputFault settingsFault recordFault runFault
   input-finds one three four five two seven eight =
-      by-orElse (by-orElse (by-demand (sizeOk (length s)) 1 one) (by-orElse (by-demand (proverOk prover) 3 three) (by-demand (kFactorOk k && limitOk limit) 4 four)))
+      by-orElse (by-orElse (by-demand (sizeOk (length s)) 1 one) (by-orElse (by-demand (proverOk prover) 3 three) (by-orElse (by-demand (kFactorOk k) 4 four) (by-demand (limitOk limit) 4 four))))
       (by-orElse
-      (by-scan (recordFault s) (runsIn s) 0 (λ i _ h. let b : i < runsIn s = omega arith in by-orElse (by-demandAt (fieldsOk (runAt s (32 * i))) 5 (i + 1) (five i b)) (by-demandAt (unnamedOk s (32 * i)) 2 (i + 1) (two i b))))
-      (by-scan (runFault prover k s) (runsIn s) 0 (λ i _ h. let b : i < runsIn s = omega arith in own-figures (figuresOf prover k (runAt s (32 * i))) (i + 1) (seven i b) (eight i b))))
-
-  group-finds : (o : Option ℕ) → Given numbers (runsIn s) 9 → Finds numbers 1 (runsIn s) (groupFault o)
-  group-finds none nine = record { number = nine }
-  group-finds (some at) nine = record { number = tt }
+      (by-scan (recordFault s) (runsIn s) 0 (λ i _ h. let b : i < runsIn s = omega arith in by-orElse (by-demandAt (runOk (runAt runSize s i)) 5 (i + 1) (five i b)) (by-demandAt (unnamedOk runSize s i) 2 (i + 1) (two i b))))
+      (by-scan (runFault prover k s) (runsIn s) 0 (λ i _ h. let b : i < runsIn s = omega arith in own-figures (figuresOf prover k (runAt runSize s i)) (i + 1) (seven i b) (eight i b))))
 
 -- a record of n, counted from 1
 of-records : (n i : ℕ) → i < n → within 1 n (i + 1) ≡ true
@@ -126,23 +122,20 @@ pub job-ends : (request : ℕ) (prover : Prover) (k limit : ℕ) (s : List ℕ) 
 unfolding jobOf isOneOf starred recordOk refusalOk
 job-ends request prover k limit s size =
     let of = of-records (runsIn s) in
-    by-judged _
-    (by-orElse (by-demand (eqb size 32) 14 refl)
-    (by-orElse (by-demand (not (eqb request 0)) 22 refl)
-    (by-orElse (input-finds prover k limit s refl refl refl of of of of)
-    (group-finds prover k limit s (firstFive prover k limit s) refl))))
+    by-unless (by-orElse (by-demand (eqb size 32) 14 refl) (by-demand (not (eqb request 0)) 22 refl))
+    (by-unless (input-finds prover k limit s refl refl refl of of of of) (by-nine (firstFive prover k limit s) (reportAt request prover k s) refl))
 
 -- the entry that hands run records back, without buffer or request number
 pub found-ends : (prover : Prover) (k limit : ℕ) (s : List ℕ) → Ends (1 ∷ 3 ∷ 4 ∷ 5 ∷ 2 ∷ 7 ∷ 8 ∷ 9 ∷ []) 1 (runsIn s) (foundOf prover k limit s)
 unfolding foundOf isOneOf starred recordOk refusalOk
 found-ends prover k limit s =
     let of = of-records (runsIn s) in
-    by-judged _ (by-orElse (input-finds prover k limit s refl refl refl of of of of) (group-finds prover k limit s (firstFive prover k limit s) refl))
+    by-unless (input-finds prover k limit s refl refl refl of of of of) (by-nine (firstFive prover k limit s) (λ at. at) refl)
 
 -- '(The entry that hands run records back hands back none when it refuses, and no number.)'
 pub none-when-refused : (prover : Prover) (k limit : ℕ) (s : List ℕ) {number at : ℕ} → foundOf prover k limit s ≡ refused number at → acceptedOf prover k limit s ≡ []
 unfolding acceptedOf
-none-when-refused prover k limit s is = ap (λ (t : Told ℕ). acceptedBy t s) is
+none-when-refused prover k limit s is = ap (λ (t : Told ℕ). acceptedBy runSize t s) is
 
 -- ---- the report: 'A report read: 14, 15. The report writer alone ..: 14, 22, 15.'
 
@@ -158,39 +151,36 @@ read-ends s = by-judged _ (by-orElse (by-demand (eqb (length s) 32) 14 refl) (by
 
 record-finds : {numbers : List ℕ} {first last : ℕ} (s : List ℕ) (i : ℕ) → refusalOk numbers first last 5 (i + 1) ≡ true → refusalOk numbers first last 2 (i + 1) ≡ true → Finds numbers first last (recordFaultOfFill s i)
 unfolding recordFaultOfFill
-record-finds s i five two = by-orElse (by-demandAt (fillFieldsOk (fillAt s i)) 5 (i + 1) five) (by-demandAt (fillUnnamedOk s i) 2 (i + 1) two)
+record-finds s i five two = by-orElse (by-demandAt (fillOk (fillAt s i)) 5 (i + 1) five) (by-demandAt (fillUnnamedOk s i) 2 (i + 1) two)
 
 pub fill-ends : (metal : Metal) (s : List ℕ) → Ends (1 ∷ 3 ∷ 5 ∷ 2 ∷ []) 1 1 (fillOf metal s)
 unfolding fillOf isOneOf starred recordOk refusalOk
 fill-ends metal s = by-judged _ (by-orElse (by-demand (eqb (length s) 32) 1 refl) (by-orElse (by-demand (metalOk metal) 3 refl) (record-finds s 0 refl refl)))
 
-draw-finds : {numbers : List ℕ} (prover : Prover) (s : List ℕ) → Given numbers (fillsIn s) 1 → Given numbers (fillsIn s) 3 → Carried numbers (fillsIn s) 5 → Carried numbers (fillsIn s) 2 → Carried numbers (fillsIn s) 6 → Finds numbers 1 (fillsIn s) (drawFault prover s)
+draw-finds : {numbers : List ℕ} (prover : Prover) (s : List ℕ) → Given numbers (recordsIn 32 s) 1 → Given numbers (recordsIn 32 s) 3 → Carried numbers (recordsIn 32 s) 5 → Carried numbers (recordsIn 32 s) 2 → Carried numbers (recordsIn 32 s) 6 → Finds numbers 1 (recordsIn 32 s) (drawFault prover s)
 unfolding drawFault fillFault
 draw-finds prover s one three five two six =
-    by-orElse (by-demand (lengthOk s) 1 one)
+    by-orElse (by-demand (areRecords fillsOk 32 (length s)) 1 one)
     (by-orElse (by-demand (metalOk (prover .metal) && pipeOk (prover .pipe)) 3 three)
     (by-orElse
-    (by-scan (fillFault s) (fillsIn s) 0 (λ i _ h. let b : i < fillsIn s = omega arith in by-orElse (record-finds s i (five i b) (two i b)) (by-demandAt (ruleOk s i) 6 (i + 1) (six i b))))
+    (by-scan (fillFault s) (recordsIn 32 s) 0 (λ i _ h. let b : i < recordsIn 32 s = omega arith in by-orElse (record-finds s i (five i b) (two i b)) (by-demandAt (ruleOk s i) 6 (i + 1) (six i b))))
     (by-demand (passesOk (passCount s)) 1 one)))
 
-pub passes-end : (prover : Prover) (s : List ℕ) → Ends (1 ∷ 3 ∷ 5 ∷ 2 ∷ 6 ∷ []) 1 (fillsIn s) (passesOf prover s)
+pub passes-end : (prover : Prover) (s : List ℕ) → Ends (1 ∷ 3 ∷ 5 ∷ 2 ∷ 6 ∷ []) 1 (recordsIn 32 s) (passesOf prover s)
 unfolding passesOf isOneOf starred recordOk refusalOk
-passes-end prover s = by-judged _ (let of = of-records (fillsIn s) in draw-finds prover s refl refl of of of)
+passes-end prover s = by-judged _ (let of = of-records (recordsIn 32 s) in draw-finds prover s refl refl of of of)
 
-pub draw-ends : (prover : Prover) (s : List ℕ) → Ends (1 ∷ 3 ∷ 5 ∷ 2 ∷ 6 ∷ 9 ∷ []) 1 (fillsIn s) (drawOf prover s)
-unfolding drawOf isOneOf starred recordOk refusalOk
-draw-ends prover s = judged-first (drawFault prover s) (firstGroup 2 3 (volumesOf prover s)) (let of = of-records (fillsIn s) in draw-finds prover s refl refl of of of)
-  where
-    judged-first : (f : Fault) (o : Option ℕ) → Finds (1 ∷ 3 ∷ 5 ∷ 2 ∷ 6 ∷ 9 ∷ []) 1 (fillsIn s) f → Ends (1 ∷ 3 ∷ 5 ∷ 2 ∷ 6 ∷ 9 ∷ []) 1 (fillsIn s) (unless f (decidedBy (volumesOf prover s) o))
-    judged-first fine none ok = record { gives = refl }
-    judged-first fine (some at) ok = record { gives = tt }
-    judged-first (fault number at) o ok = record { gives = ok .number }
+pub draw-ends : (prover : Prover) (s : List ℕ) → Ends (1 ∷ 3 ∷ 5 ∷ 2 ∷ 6 ∷ 9 ∷ []) 1 (recordsIn 32 s) (drawOf prover s)
+unfolding drawOf baseOf isOneOf starred recordOk refusalOk
+draw-ends prover s =
+    let of = of-records (recordsIn 32 s) in
+    by-unless (draw-finds prover s refl refl of of of) (by-nine (firstGroup 2 3 (volumesOf prover s)) _ refl)
 
 -- ---- 'A ticket: 10, 11.' A live reading: 12, 13.
 
 pub ticket-ends : (t : Ticket) → Ends (10 ∷ 11 ∷ []) 0 0 (ticketOf t)
 unfolding ticketOf isOneOf starred recordOk refusalOk
-ticket-ends t = by-judged _ (by-orElse (by-demand (ticketFieldsOk t) 10 refl) (by-demand (leb (t .opening) (t .closing)) 11 refl))
+ticket-ends t = by-judged _ (by-orElse (by-demand (ticketOk t) 10 refl) (by-demand (leb (t .opening) (t .closing)) 11 refl))
 
 reading-finds : (x : Float) (ok : Bool) → Finds (12 ∷ 13 ∷ []) 0 0 (readingFault x ok)
 unfolding readingFault isOneOf starred recordOk refusalOk
@@ -227,9 +217,8 @@ take-ends book = by-judged _ (by-orElse (by-demand (isSound book) 20 refl) (by-d
 
 -- ---- 'A refusal writes nothing into a lent buffer': `leftBy t found` is the buffer that the writer and the job leave where they tell t
 
-pub buffer-as-found : {t : Told Report} {number at : ℕ} (found : List ℕ) → t ≡ refused number at → leftBy t found ≡ found
-unfolding leftBy
-buffer-as-found found is = ap (λ (t : Told Report). leftBy t found) is
+pub left-as-found : {A B : Type 0} {t : Told A} {number at : ℕ} (leaves : A → B) (found : B) → t ≡ refused number at → leftBy t leaves found ≡ found
+left-as-found {A} leaves found is = ap (λ (t : Told A). leftBy t leaves found) is
 
 -- 'and hands the book of waiting requests back unchanged'
 book-as-found : {A : Type 0} {t : Told A} {number at : ℕ} (changed book : Book) → t ≡ refused number at → bookLeftBy t changed book ≡ book

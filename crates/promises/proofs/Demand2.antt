@@ -2,45 +2,43 @@
 -- passes of water, meet the repeatability limit. The first such group is the one used.'
 use mathlib.Core.Path.{_≡_, refl, sym, ap, _∙_}
 use mathlib.Core.Bool.{true, not, _&&_}
-use mathlib.Core.Logic.{by-cases}
-use mathlib.Core.List.{List, [], _∷_, _++_}
+use mathlib.Core.List.{List, [], _∷_}
 use mathlib.Core.Option.{Option, none, some}
 use Prim.Native.Nat.{ℕ, zero, suc, _+_, _*_, _/_, _%_, _≤_, _<_, _-_}
-use native.Mathlib.Decide.{decLt}
 use native.Mathlib.Omega.{arith}
 use borrow.Author.Tests.{eqb-true, eq-eqb, ne-eqb}
 use lib.Dec.{eqb}
-use lib.ListN.{length, getD, take, drop, List·getD-append}
-use lib.Seq.{getD-append-seam}
-use Rattle.refusals.specs.Told.{done, Fault, fine, demand, demandAt, orElse, refused}
-use Rattle.refusals.proofs.Laws.{demand-holds, demandAt-holds, demand-was, demandAt-was, orElse-next, orElse-fine-first, orElse-fine-next, judged-fine, judged-was, judged-done}
-use Rattle.ranges.specs.Table.{kFactorOk, limitOk, volumeOk, passesOk}
+use lib.ListN.{length, getD, take, drop}
+use Rattle.refusals.specs.Told.{Told, done, refused, Fault, fine, fault, demand, demandAt, orElse, unless}
+use Rattle.refusals.proofs.Laws.{demand-holds, demandAt-holds, demand-was, demandAt-was, orElse-next, orElse-fine-first, orElse-fine-next, done-one, refused-not-done}
+use Rattle.ranges.specs.Table.{kFactorOk, limitOk, volumeOk, passesOk, fillsOk, runsOk}
+use Rattle.octets.specs.Records.{recordsIn, areRecords}
 use Rattle.ranges.proofs.Laws.{both-first, both-second, both-true}
 use Rattle.octets.specs.FirstToLast.{scan}
 use Rattle.octets.proofs.FirstToLast.{faults, empty, nowhere}
 use Rattle.factors.specs.Metal.{metalOk}
-use Rattle.factors.specs.Answers.{pipeOk}
+use Rattle.factors.specs.Prover.{pipeOk, proverOk}
 use Rattle.factors.specs.declared.Prover.{Prover}
 use Rattle.group.specs.Mean.{meanOf}
-use Rattle.group.specs.Repeatability.{qualifies, groupAt, firstGroup}
+use Rattle.group.specs.Repeatability.{qualifies, groupAt, firstGroup, nineUnless}
+use Rattle.group.specs.Listed.{listed}
+use Rattle.group.proofs.Listed.{listed-value, listed-length}
 use Rattle.group.proofs.Groups.{first-found, qualifies-repeats, repeats-qualifies}
 use Rattle.report.specs.Record.{listOf}
 use Rattle.report.specs.Judged.{reportOf}
 use Rattle.report.specs.declared.Report.{Report}
-use Rattle.run.specs.Record.{runAt, fieldsOk}
+use Rattle.run.specs.Record.{runSize, runAt, runOk}
 use Rattle.run.specs.Figures.{figuresOf}
-use Rattle.run.specs.Answers.{proverOk, figuresFault}
+use Rattle.run.specs.Answers.{figuresFault}
 use Rattle.proving.specs.Judging.{runsIn, sizeOk, settingsFault, recordFault, runFault, inputFault}
-use Rattle.proving.specs.Job.{factorAt, listed, factorsOf, firstFive, groupFault, placeFound, fiveAt, reportAt, jobOf, foundOf, acceptedOf}
+use Rattle.proving.specs.Job.{factorAt, factorsOf, firstFive, fiveAt, reportAt, jobOf, foundOf, acceptedOf}
 use Rattle.proving.proofs.Accepted.{same-number, empty-when-refused, begins-at-first-run, whole-when-done}
-use Rattle.proving.proofs.Laws.{listed-value, listed-length}
-use Rattle.draw.specs.Fill.{fillAt, fieldsOk as fillFieldsOk}
-use Rattle.draw.specs.Passes.{fillsIn, lengthOk, passCount, passVolume, volumesTo, volumesOf}
-use Rattle.draw.specs.Base.{barrelsOf, baseFrom}
-use Rattle.draw.specs.Answers.{recordFault as recordFaultOfFill, fillFault, drawFault, decidedBy, unless, drawOf}
+use Rattle.draw.specs.Fill.{fillAt, fillOk}
+use Rattle.draw.specs.Passes.{passCount, passVolume, volumesOf}
+use Rattle.draw.specs.Base.{barrelsOf, baseFrom, baseOf}
+use Rattle.draw.specs.Answers.{recordFault as recordFaultOfFill, fillFault, drawFault, drawOf}
 use Rattle.draw.specs.declared.BaseVolume.{BaseVolume}
 use Rattle.draw.proofs.Outcome.{Accepted, accepted}
-use Rattle.draw.proofs.Volumes.{length-volumes}
 use Rattle.promises.specs.Proving.{InputWithin, FiguresWithin, FiveMeet, Acceptable, Used}
 use Rattle.promises.specs.WaterDraw as draw
 use Rattle.promises.proofs.Groups.{apart, Least, group-listed, first-least, some-found}
@@ -73,34 +71,47 @@ parted f g is = (orElse-fine-first f g is, orElse-fine-next f g is)
 joined : {f g : Fault} → f ≡ fine → g ≡ fine → orElse f g ≡ fine
 joined {f} {g} p q = orElse-next g p ∙ q
 
-group-found : (o : Option ℕ) → groupFault o ≡ fine → o ≡ some (placeFound o)
-group-found none is = cc
-group-found (some at) is = refl
+-- a result comes of no fault, and of a group
+pub unless-done : {A : Type 0} (f : Fault) (t : Told A) {x : A} → unless f t ≡ done x → (f ≡ fine) × (t ≡ done x)
+unless-done fine t is = (refl, is)
+unless-done (fault number at) t is = absurd (refused-not-done is)
 
-group-fine : (o : Option ℕ) → (o ≡ none → ⊥) → groupFault o ≡ fine
-group-fine none is = absurd (is refl)
-group-fine (some at) is = refl
+unless-fine : {A : Type 0} {f : Fault} {t u : Told A} → f ≡ fine → t ≡ u → unless f t ≡ u
+unless-fine {A} {f} {t} clear is = ap (λ (g : Fault). unless g t) clear ∙ is
+
+record Chosen {A : Type 0} (o : Option ℕ) (follows : ℕ → A) (x : A) : Type 0 where
+  place : ℕ
+  found : o ≡ some place
+  is : x ≡ follows place
+
+chosen : {A : Type 0} (o : Option ℕ) (follows : ℕ → A) {x : A} → nineUnless o follows ≡ done x → Chosen o follows x
+chosen none follows is = absurd (refused-not-done is)
+chosen (some at) follows is = record { place = at; found = refl; is = sym (done-one is) }
+
+chosen-when : {A : Type 0} (o : Option ℕ) (follows : ℕ → A) → (o ≡ none → ⊥) → (x : A) × (nineUnless o follows ≡ done x)
+chosen-when none follows some-group = absurd (some-group refl)
+chosen-when (some at) follows some-group = (follows at, refl)
 
 module _ (prover : Prover) (k limit : ℕ) (s : List ℕ) where
   -- judging finds nothing exactly when the input and each run's figures are within limits
   input-within : inputFault prover k limit s ≡ fine → InputWithin prover k limit s
-  unfolding inputFault settingsFault sizeOk recordFault runsIn
+  unfolding inputFault settingsFault recordFault recordsIn areRecords
   input-within clear =
       let settings-part = parted (settingsFault prover k limit (length s)) _ clear in
-      let records-part = parted (scan (recordFault s) (length s / 32) 0) _ (settings-part .1) in
+      let records-part = parted (scan (recordFault s) (length s / runSize) 0) _ (settings-part .1) in
       let from1 = parted (demand (sizeOk (length s)) 1) _ (settings-part .0) in
       let from3 = parted (demand (proverOk prover) 3) _ (from1 .1) in
       let size = demand-was (sizeOk (length s)) 1 (from1 .0) in
-      let last = demand-was (kFactorOk k && limitOk limit) 4 (from3 .1) in
-      let each : (i : ℕ) → i < length s / 32 → recordFault s i ≡ fine = λ i h. empty faults (recordFault s) (length s / 32) 0 (records-part .0) i (omega arith) (omega arith) in
+      let from4 = parted (demand (kFactorOk k) 4) _ (from3 .1) in
+      let each : (i : ℕ) → i < length s / runSize → recordFault s i ≡ fine = λ i h. empty faults (recordFault s) (length s / runSize) 0 (records-part .0) i (omega arith) (omega arith) in
       record {
-        whole = eqb-true (length s % 32) 0 (both-first (eqb (length s % 32) 0) _ size);
-        runs = both-second (eqb (length s % 32) 0) _ size;
+        whole = eqb-true (length s % runSize) 0 (both-first (eqb (length s % runSize) 0) _ size);
+        runs = both-second (eqb (length s % runSize) 0) _ size;
         settings = demand-was (proverOk prover) 3 (from3 .0);
-        kFactor = both-first (kFactorOk k) _ last;
-        limits = both-second (kFactorOk k) _ last;
+        kFactor = demand-was (kFactorOk k) 4 (from4 .0);
+        limits = demand-was (limitOk limit) 4 (from4 .1);
         fields = λ i h. demandAt-was _ 5 (i + 1) (parted _ _ (each i h) .0);
-        unnamed = λ i h. demandAt-was _ 2 (i + 1) (parted (demandAt (fieldsOk (runAt s (32 * i))) 5 (i + 1)) _ (each i h) .1);
+        unnamed = λ i h. demandAt-was _ 2 (i + 1) (parted (demandAt (runOk (runAt runSize s i)) 5 (i + 1)) _ (each i h) .1);
       }
 
   figures-within : inputFault prover k limit s ≡ fine → FiguresWithin prover k s
@@ -110,17 +121,17 @@ module _ (prover : Prover) (k limit : ℕ) (s : List ℕ) where
       let each : (i : ℕ) → i < runsIn s → runFault prover k s i ≡ fine = λ i h. empty faults (runFault prover k s) (runsIn s) 0 runs-part i (omega arith) (omega arith) in
       record {
         volume = λ i h. demandAt-was _ 7 (i + 1) (parted _ _ (each i h) .0);
-        factor = λ i h. demandAt-was _ 8 (i + 1) (parted (demandAt (volumeOk (figuresOf prover k (runAt s (32 * i)) .indicated)) 7 (i + 1)) _ (each i h) .1);
+        factor = λ i h. demandAt-was _ 8 (i + 1) (parted (demandAt (volumeOk (figuresOf prover k (runAt runSize s i) .indicated)) 7 (i + 1)) _ (each i h) .1);
       }
 
   within-clear : InputWithin prover k limit s → FiguresWithin prover k s → inputFault prover k limit s ≡ fine
-  unfolding inputFault settingsFault sizeOk recordFault runFault figuresFault runsIn
+  unfolding inputFault settingsFault recordFault runFault figuresFault recordsIn areRecords
   within-clear input figures =
       joined
-      (joined (demand-holds 1 (both-true (eq-eqb (length s % 32) 0 (input .whole)) (input .runs))) (joined (demand-holds 3 (input .settings)) (demand-holds 4 (both-true (input .kFactor) (input .limits)))))
+      (joined (demand-holds 1 (both-true (eq-eqb (length s % runSize) 0 (input .whole)) (input .runs))) (joined (demand-holds 3 (input .settings)) (joined (demand-holds 4 (input .kFactor)) (demand-holds 4 (input .limits)))))
       (joined
-      (nowhere faults (recordFault s) (length s / 32) 0 (λ i _ h. let b : i < length s / 32 = omega arith in joined (demandAt-holds 5 (i + 1) (input .fields i b)) (demandAt-holds 2 (i + 1) (input .unnamed i b))))
-      (nowhere faults (runFault prover k s) (length s / 32) 0 (λ i _ h. let b : i < length s / 32 = omega arith in joined (demandAt-holds 7 (i + 1) (figures .volume i b)) (demandAt-holds 8 (i + 1) (figures .factor i b)))))
+      (nowhere faults (recordFault s) (length s / runSize) 0 (λ i _ h. let b : i < length s / runSize = omega arith in joined (demandAt-holds 5 (i + 1) (input .fields i b)) (demandAt-holds 2 (i + 1) (input .unnamed i b))))
+      (nowhere faults (runFault prover k s) (length s / runSize) 0 (λ i _ h. let b : i < length s / runSize = omega arith in joined (demandAt-holds 7 (i + 1) (figures .volume i b)) (demandAt-holds 8 (i + 1) (figures .factor i b)))))
 
   factor-values : (i : ℕ) → i < length (factorsOf prover k s) → getD (factorsOf prover k s) i 0 ≡ factorAt prover k s i
   unfolding factorsOf
@@ -145,10 +156,7 @@ module _ (prover : Prover) (k limit : ℕ) (s : List ℕ) where
 
   module _ (request size : ℕ) where
     abbrev asking : Fault
-    asking = orElse (demand (eqb size 32) 14) (orElse (demand (not (eqb request 0)) 22) (orElse (inputFault prover k limit s) (groupFault (firstFive prover k limit s))))
-
-    abbrev report : Report
-    report = reportAt request prover k s (placeFound (firstFive prover k limit s))
+    asking = orElse (demand (eqb size 32) 14) (demand (not (eqb request 0)) 22)
 
     -- what a job that is done has been judged by
     record Cleared (r : Report) : Type 0 where
@@ -162,17 +170,17 @@ module _ (prover : Prover) (k limit : ℕ) (s : List ℕ) where
     cleared : {r : Report} → jobOf request prover k limit s size ≡ done r → Cleared r
     unfolding jobOf
     cleared is =
-        let clear = judged-was asking report is in
-        let from14 = parted (demand (eqb size 32) 14) _ clear in
-        let from22 = parted (demand (not (eqb request 0)) 22) _ (from14 .1) in
-        let rest = parted (inputFault prover k limit s) _ (from22 .1) in
+        let from14 = unless-done asking _ is in
+        let both = parted (demand (eqb size 32) 14) _ (from14 .0) in
+        let from1 = unless-done (inputFault prover k limit s) _ (from14 .1) in
+        let c = chosen (firstFive prover k limit s) (reportAt request prover k s) (from1 .1) in
         record {
-          buffer = eqb-true size 32 (demand-was (eqb size 32) 14 (from14 .0));
-          asked = not-zero request (demand-was (not (eqb request 0)) 22 (from22 .0));
-          input = rest .0;
-          place = placeFound (firstFive prover k limit s);
-          group = group-found (firstFive prover k limit s) (rest .1);
-          is = sym (judged-done asking report is);
+          buffer = eqb-true size 32 (demand-was (eqb size 32) 14 (both .0));
+          asked = not-zero request (demand-was (not (eqb request 0)) 22 (both .1));
+          input = from1 .0;
+          place = c .place;
+          group = c .found;
+          is = c .is;
         }
 
     least-five : (place : ℕ) → firstFive prover k limit s ≡ some place → Least (factorAt prover k s) (factorsOf prover k s) factor-values 5 limit place
@@ -197,14 +205,12 @@ module _ (prover : Prover) (k limit : ℕ) (s : List ℕ) where
     -- and always then
     pub accepted-when : size ≡ 32 → (request ≡ 0 → ⊥) → Acceptable prover k limit s → (r : Report) × (jobOf request prover k limit s size ≡ done r)
     unfolding jobOf
-    accepted-when buffer asked ok = (
-      report,
-      judged-fine report
-          (joined (demand-holds 14 (eq-eqb size 32 buffer))
-          (joined (demand-holds 22 (ap not (ne-eqb request 0 asked)))
-          (joined (within-clear (ok .input) (ok .figures))
-          (group-fine (firstFive prover k limit s) (λ is. no-five is (ok .place) (ok .five)))))),
-    )
+    accepted-when buffer asked ok =
+        let found = chosen-when (firstFive prover k limit s) (reportAt request prover k s) (λ is. no-five is (ok .place) (ok .five)) in (
+          found .0,
+          unless-fine {f = asking} (joined (demand-holds 14 (eq-eqb size 32 buffer)) (demand-holds 22 (ap not (ne-eqb request 0 asked))))
+              (unless-fine (within-clear (ok .input) (ok .figures)) (found .1)),
+        )
 
     -- 'The first such group is the one used.' Its mean is the job's factor.
     pub first-is-used : {r : Report} → jobOf request prover k limit s size ≡ done r → Used request prover k limit s r
@@ -227,7 +233,7 @@ module _ (prover : Prover) (k limit : ℕ) (s : List ℕ) where
   -- 01: 'the five accepted run records are handed back as a part of the lent records; a refused job hands back the empty part and no number.
   -- The number is the one that the job itself, with a 32-byte buffer and a non-zero request number, gives for the same input.'
   module _ (request : ℕ) (asked : request ≡ 0 → ⊥) where
-    pub accepted-runs : {r : Report} → jobOf request prover k limit s 32 ≡ done r → (acceptedOf prover k limit s ≡ take 160 (drop (32 * (r .first - 1)) s)) × (length (acceptedOf prover k limit s) ≡ 160)
+    pub accepted-runs : {r : Report} → jobOf request prover k limit s 32 ≡ done r → (acceptedOf prover k limit s ≡ take (5 * runSize) (drop (runSize * (r .first - 1)) s)) × (length (acceptedOf prover k limit s) ≡ 5 * runSize)
     accepted-runs is = (begins-at-first-run request prover k limit s asked is, whole-when-done request prover k limit s asked is)
 
     pub no-accepted-runs : {number at : ℕ} → jobOf request prover k limit s 32 ≡ refused number at → (acceptedOf prover k limit s ≡ []) × (foundOf prover k limit s ≡ refused number at)
@@ -237,50 +243,41 @@ module _ (prover : Prover) (k limit : ℕ) (s : List ℕ) where
 
 module _ (prover : Prover) (s : List ℕ) where
   fills-within : drawFault prover s ≡ fine → draw.InputWithin prover s
-  unfolding drawFault fillFault recordFaultOfFill lengthOk
+  unfolding drawFault fillFault recordFaultOfFill areRecords recordsIn
   fills-within clear =
-      let from1 = parted (demand (lengthOk s) 1) _ clear in
+      let from1 = parted (demand (areRecords fillsOk 32 (length s)) 1) _ clear in
       let from3 = parted (demand (metalOk (prover .metal) && pipeOk (prover .pipe)) 3) _ (from1 .1) in
-      let records-part = parted (scan (fillFault s) (fillsIn s) 0) _ (from3 .1) in
-      let size = demand-was (lengthOk s) 1 (from1 .0) in
+      let records-part = parted (scan (fillFault s) (recordsIn 32 s) 0) _ (from3 .1) in
+      let size = demand-was (areRecords fillsOk 32 (length s)) 1 (from1 .0) in
       let settings = demand-was (metalOk (prover .metal) && pipeOk (prover .pipe)) 3 (from3 .0) in
-      let each : (i : ℕ) → i < fillsIn s → fillFault s i ≡ fine = λ i h. empty faults (fillFault s) (fillsIn s) 0 (records-part .0) i (omega arith) (omega arith) in
+      let each : (i : ℕ) → i < recordsIn 32 s → fillFault s i ≡ fine = λ i h. empty faults (fillFault s) (recordsIn 32 s) 0 (records-part .0) i (omega arith) (omega arith) in
       record {
-        whole = eqb-true (length s % 32) 0 (both-first (eqb (length s % 32) 0) _ size);
-        fills = both-second (eqb (length s % 32) 0) _ size;
+        whole = eqb-true (length s % runSize) 0 (both-first (eqb (length s % runSize) 0) _ size);
+        fills = both-second (eqb (length s % runSize) 0) _ size;
         metal = both-first (metalOk (prover .metal)) _ settings;
         pipe = both-second (metalOk (prover .metal)) _ settings;
         fields = λ i h. demandAt-was _ 5 (i + 1) (parted _ _ (parted (recordFaultOfFill s i) _ (each i h) .0) .0);
-        unnamed = λ i h. demandAt-was _ 2 (i + 1) (parted (demandAt (fillFieldsOk (fillAt s i)) 5 (i + 1)) _ (parted (recordFaultOfFill s i) _ (each i h) .0) .1);
+        unnamed = λ i h. demandAt-was _ 2 (i + 1) (parted (demandAt (fillOk (fillAt s i)) 5 (i + 1)) _ (parted (recordFaultOfFill s i) _ (each i h) .0) .1);
         rule = λ i h. demandAt-was _ 6 (i + 1) (parted (recordFaultOfFill s i) _ (each i h) .1);
         passes = demand-was (passesOk (passCount s)) 1 (records-part .1);
       }
 
   fills-clear : draw.InputWithin prover s → drawFault prover s ≡ fine
-  unfolding drawFault fillFault recordFaultOfFill lengthOk
+  unfolding drawFault fillFault recordFaultOfFill areRecords recordsIn
   fills-clear input =
-      joined (demand-holds 1 (both-true (eq-eqb (length s % 32) 0 (input .whole)) (input .fills)))
+      joined (demand-holds 1 (both-true (eq-eqb (length s % runSize) 0 (input .whole)) (input .fills)))
       (joined (demand-holds 3 (both-true (input .metal) (input .pipe)))
       (joined
-      (nowhere faults (fillFault s) (fillsIn s) 0 (λ i _ h. let b : i < fillsIn s = omega arith in joined (joined (demandAt-holds 5 (i + 1) (input .fields i b)) (demandAt-holds 2 (i + 1) (input .unnamed i b))) (demandAt-holds 6 (i + 1) (input .rule i b))))
+      (nowhere faults (fillFault s) (recordsIn 32 s) 0 (λ i _ h. let b : i < recordsIn 32 s = omega arith in joined (joined (demandAt-holds 5 (i + 1) (input .fields i b)) (demandAt-holds 2 (i + 1) (input .unnamed i b))) (demandAt-holds 6 (i + 1) (input .rule i b))))
       (demand-holds 1 (input .passes))))
 
   volume-count : length (volumesOf prover s) ≡ passCount s
   unfolding volumesOf
-  volume-count = length-volumes prover s (passCount s)
-
-  pass-values : (n i : ℕ) → i < n → getD (volumesTo prover s n) i 0 ≡ passVolume prover s (i + 1)
-  unfolding volumesTo
-  pass-values zero i h = absurd (omega arith)
-  pass-values (suc n) i h =
-      let long : length (volumesTo prover s n) ≡ n = length-volumes prover s n in
-      by-cases (decLt i n)
-      (λ less. List·getD-append (volumesTo prover s n) (passVolume prover s (suc n) ∷ []) 0 i (omega arith) ∙ pass-values n i less)
-      (λ last. let same : i ≡ length (volumesTo prover s n) = omega arith in ap (λ (m : ℕ). getD (volumesTo prover s n ++ (passVolume prover s (suc n) ∷ [])) m 0) same ∙ getD-append-seam (volumesTo prover s n) (passVolume prover s (suc n)) [] 0 ∙ ap (passVolume prover s) (omega arith))
+  volume-count = listed-length (passVolume prover s) (passCount s) 1
 
   volume-values : (i : ℕ) → i < length (volumesOf prover s) → getD (volumesOf prover s) i 0 ≡ draw.volumeAt prover s i
   unfolding volumesOf draw.volumeAt
-  volume-values i h = pass-values (passCount s) i (omega (arith, length-volumes prover s (passCount s)))
+  volume-values i h = listed-value (passVolume prover s) (passCount s) 1 i (omega (arith, listed-length (passVolume prover s) (passCount s) 1)) ∙ ap (passVolume prover s) (omega arith)
 
   -- where no group is found, no three meet the limit
   pub no-three : firstGroup 2 3 (volumesOf prover s) ≡ none → (at : ℕ) → draw.ThreeMeet prover s at → ⊥
@@ -298,13 +295,10 @@ module _ (prover : Prover) (s : List ℕ) where
 
   -- and always then
   pub draw-accepted-when : draw.Acceptable prover s → (b : BaseVolume) × (drawOf prover s ≡ done b)
-  unfolding drawOf
+  unfolding drawOf baseOf
   draw-accepted-when ok =
-      by-place (firstGroup 2 3 (volumesOf prover s)) (λ is. no-three is (ok .place) (ok .three))
-    where
-      by-place : (o : Option ℕ) → (o ≡ none → ⊥) → (b : BaseVolume) × (unless (drawFault prover s) (decidedBy (volumesOf prover s) o) ≡ done b)
-      by-place none found = absurd (found refl)
-      by-place (some at) found = (baseFrom (groupAt 3 (volumesOf prover s) at) at, ap (λ (f : Fault). unless f (decidedBy (volumesOf prover s) (some at))) (fills-clear (ok .input)))
+      let found = chosen-when (firstGroup 2 3 (volumesOf prover s)) (λ at. baseFrom (groupAt 3 (volumesOf prover s) at) at) (λ is. no-three is (ok .place) (ok .three)) in
+      (found .0, unless-fine (fills-clear (ok .input)) (found .1))
 
   -- 'The first such group is the one used.' Its mean is the base volume.
   pub draw-first-is-used : {b : BaseVolume} → drawOf prover s ≡ done b → draw.Used prover s b

@@ -2,10 +2,12 @@
 use mathlib.Core.Path.{_≡_, sym, subst}
 use mathlib.Core.Bool.{Bool, true, false}
 use mathlib.Core.List.{List}
+use mathlib.Core.Option.{Option, none, some}
 use Prim.Native.Nat.{ℕ, zero, suc, _+_, _≤_, _<_}
 use native.Mathlib.Omega.{arith}
-use Rattle.refusals.specs.Told.{Told, Fault, fine, fault, demand, demandAt, orElse, judged}
+use Rattle.refusals.specs.Told.{Told, Fault, fine, fault, demand, demandAt, orElse, unless, judged}
 use Rattle.octets.specs.FirstToLast.{firstToLast, scan}
+use Rattle.group.specs.Repeatability.{nineUnless}
 use Rattle.promises.specs.Ending.{refusalOk, Ends}
 
 -- the same of what judging finds
@@ -17,13 +19,12 @@ pub record Finds (numbers : List ℕ) (first last : ℕ) (f : Fault) : Type 0 wh
   pub number : FindsNumber numbers first last f
 
 module _ {numbers : List ℕ} {first last : ℕ} where
-  pub by-demand : (t : Bool) (number : ℕ) → refusalOk numbers first last number 0 ≡ true → Finds numbers first last (demand t number)
-  by-demand true number ok = record { number = tt }
-  by-demand false number ok = record { number = ok }
-
   pub by-demandAt : (t : Bool) (number at : ℕ) → refusalOk numbers first last number at ≡ true → Finds numbers first last (demandAt t number at)
   by-demandAt true number at ok = record { number = tt }
   by-demandAt false number at ok = record { number = ok }
+
+  pub by-demand : (t : Bool) (number : ℕ) → refusalOk numbers first last number 0 ≡ true → Finds numbers first last (demand t number)
+  by-demand t number = by-demandAt t number 0
 
   in-order : (f g : Fault) → Finds numbers first last f → Finds numbers first last g → Finds numbers first last (orElse f g)
   in-order fine g here next = next
@@ -37,12 +38,19 @@ module _ {numbers : List ℕ} {first last : ℕ} where
   by-scan f zero i each = record { number = tt }
   by-scan f (suc n) i each = in-order (f i) (scan f n (i + 1)) (each i (omega arith) (omega arith)) (by-scan f n (i + 1) (λ j from below. each j (omega arith) (omega arith)))
 
-  judged-ends : {A : Type 0} (f : Fault) (x : A) → Finds numbers first last f → Ends numbers first last (judged f x)
-  judged-ends fine x ok = record { gives = tt }
-  judged-ends (fault number at) x ok = record { gives = ok .number }
+  unless-ends : {A : Type 0} (f : Fault) (t : Told A) → Finds numbers first last f → Ends numbers first last t → Ends numbers first last (unless f t)
+  unless-ends fine t ok next = next
+  unless-ends (fault number at) t ok next = record { gives = ok .number }
+
+  pub by-unless : {A : Type 0} {f : Fault} {t : Told A} → Finds numbers first last f → Ends numbers first last t → Ends numbers first last (unless f t)
+  by-unless {A} {f} {t} ok next = unless-ends f t ok next
 
   pub by-judged : {A : Type 0} {f : Fault} (x : A) → Finds numbers first last f → Ends numbers first last (judged f x)
-  by-judged {A} {f} x ok = judged-ends f x ok
+  by-judged x ok = by-unless ok (record { gives = tt })
+
+  pub by-nine : {A : Type 0} (o : Option ℕ) (follows : ℕ → A) → refusalOk numbers first last 9 0 ≡ true → Ends numbers first last (nineUnless o follows)
+  by-nine none follows ok = record { gives = ok }
+  by-nine (some at) follows ok = record { gives = tt }
 
 -- what is told ends as its meaning does
 pub as-told : {A : Type 0} {numbers : List ℕ} {first last : ℕ} {t m : Told A} → t ≡ m → Ends numbers first last m → Ends numbers first last t

@@ -11,53 +11,62 @@ use native.Mathlib.Omega.{arith}
 use lib.Dec.{leb, ltb}
 use lib.IntN.{ℤ, pos, natAbs, _+ℤ_}
 use lib.ListN.{length}
-use Rattle.refusals.specs.Told.{done, demand, demandAt, orElse}
+use Rattle.refusals.specs.Told.{done, demand, demandAt, orElse, judged}
 use Rattle.refusals.proofs.Laws.{demand-was, demandAt-was, orElse-fine-first, orElse-fine-next, judged-was, judged-done}
-use Rattle.ranges.specs.Table.{temperatureOk, pressureOk, compressibilityOk, coefficientOk, kFactorOk, volumeOk, runFactorOk}
-use Rattle.ranges.proofs.Laws.{both-first, both-second, within-low, within-high}
+use Rattle.ranges.specs.Table.{temperatureOk, pressureOk, coefficientOk, kFactorOk, volumeOk, runFactorOk}
+use Rattle.ranges.proofs.Laws.{within-low, within-high}
 use Rattle.exact.specs.Rounding.{roundedDiv, Fraction, _over_, rounded}
 use Rattle.exact.proofs.Rounding.{Nearest, nearest, nearest-one, at-least}
+use Rattle.octets.specs.Records.{recordsIn}
 use Rattle.octets.specs.FirstToLast.{firstPlace}
 use Rattle.octets.proofs.FirstToLast.{First, place-first}
 use Rattle.factors.specs.Metal.{coefficientOf, metalOk}
 use Rattle.factors.specs.Fractions.{cts, cps, cpl, combined, productOf}
-use Rattle.factors.specs.Answers.{pipeOk, ctsOf, cpsOf, cplOf}
+use Rattle.factors.specs.Prover.{pipeOk, proverOk}
+use Rattle.factors.specs.Liquid.{liquidOk, cplFrom}
+use Rattle.factors.specs.Rounded.{ctsAt, cpsAt, cplAt, combinedAt, correctedAt}
+use Rattle.factors.specs.Answers.{ctsOf, cpsOf, cplOf}
+use Rattle.factors.specs.declared.Liquid.{Liquid}
+use Rattle.factors.specs.declared.Metal.the-variants.{Certified}
+use Rattle.factors.proofs.Squeezed.{squeezed-little, pressure-fits}
 use Rattle.factors.specs.declared.Metal.{Metal}
 use Rattle.factors.specs.declared.Pipe.{Pipe}
 use Rattle.factors.specs.declared.Prover.{Prover}
 use Rattle.factors.proofs.Steel.{warm, parts, Loads, loads}
 use Rattle.group.specs.Mean.{meanOf}
 use Rattle.exact.specs.Words.{sumOf}
-use Rattle.run.specs.Record.{fieldsOk}
-use Rattle.run.specs.Figures.{indicated, steelCts, steelCps, liquidCpl, correctedBy, atProver, atMeter, figuresFrom, figuresOf}
-use Rattle.run.specs.Answers.{proverOk, figuresFault, workedOf}
+use Rattle.run.specs.Record.{runSize, runAt, runOk}
+use Rattle.run.specs.Figures.{indicated, steelCts, steelCps, correctedBy, atProver, atMeter, figuresFrom, figuresOf}
+use Rattle.run.specs.Answers.{givenFault, figuresFault, figuresTold, workedOf}
 use Rattle.run.specs.declared.Run.{Run}
 use Rattle.run.specs.declared.Figures.{Figures}
 use Rattle.run.proofs.Laws.{SideFits, side-fits, RunFits, run-fits, ProverFits, prover-fits}
-use Rattle.draw.specs.Fill.{fillAt, fieldsOk as fillFieldsOk}
+use Rattle.draw.specs.Fill.{fillAt, fillOk}
 use Rattle.draw.specs.Drawn.{adjusted, measureCts, proverCts, ccts, drawn, figuresOf as fillFigures}
-use Rattle.draw.specs.Passes.{fillsIn, isOf, passSum, pressureAt, passPressure, pipeFactor, waterFactor, correctedVolume, passVolume}
+use Rattle.draw.specs.Passes.{isOf, passSum, pressureAt, passPressure, waterCompressibility, waterAt, correctedVolume, passVolume}
+use Rattle.draw.proofs.Volumes.{water-ok}
 use Rattle.draw.specs.Base.{barrelsOf}
 use Rattle.draw.specs.declared.FillFigures.{FillFigures}
 use Rattle.draw.proofs.Fields.{fields}
-use Rattle.ticket.specs.Ranges.{fieldsOk as ticketFieldsOk}
-use Rattle.ticket.specs.Formulas.{indicated as measured, cplFrom, factor, gross, net}
+use Rattle.ticket.specs.Ranges.{ticketOk}
+use Rattle.ticket.specs.Formulas.{indicated as measured, factor, gross, net}
 use Rattle.ticket.specs.Answers.{volumes, ticketOf}
 use Rattle.ticket.specs.declared.Ticket.{Ticket}
 use Rattle.ticket.specs.declared.Volumes.{Volumes}
-use Rattle.ticket.proofs.Magnitudes.{Bounds, in-range}
+use Rattle.ticket.proofs.Magnitudes.{in-range}
 use Rattle.report.specs.Record.{listOf}
 use Rattle.report.specs.declared.Report.{Report}
-use Rattle.run.specs.Record.{runAt}
 use Rattle.proving.specs.Judging.{runsIn}
-use Rattle.proving.specs.Job.{factorAt, listed}
-use Rattle.proving.proofs.Laws.{listed-length}
+use Rattle.proving.specs.Job.{factorAt}
+use Rattle.group.specs.Listed.{listed}
+use Rattle.group.proofs.Listed.{listed-length}
 use Rattle.draw.specs.declared.BaseVolume.{BaseVolume}
 use Rattle.factors.specs.Answers.{combinedOf, held}
 use Rattle.factors.specs.declared.Combined.the-variants.{Value as Held, TooMany, TooLarge}
 use Rattle.promises.specs.Proving.{Acceptable, Used}
 use Rattle.promises.specs.WaterDraw as water
 use Rattle.promises.specs.WaterDraw.{InputWithin}
+use Rattle.promises.proofs.Demand2.{unless-done}
 
 -- 'rounded once, halves upward': q is the whole number nearest to n / d, the upper where two are as near, and no other number is
 pub record RoundedOnce (n d q : ℕ) : Type 0 where
@@ -81,42 +90,39 @@ moved {n} {d} same r = subst (λ (m : ℕ). RoundedOnce n d m) same r
 -- ---- correction factors
 
 -- CTS, CPS and CPL within their ranges have divisors that are not zero
-cts-once : (d : ℕ) (t : ℤ) (gc : ℕ) → RoundedTo d (cts t gc) (rounded d (cts t gc))
-unfolding cts
-cts-once d t gc = to d _ 100000000 (omega arith)
+cts-once : (d : ℕ) (metal : Metal) (t : ℤ) → RoundedTo d (cts t (coefficientOf metal)) (ctsAt d metal t)
+unfolding ctsAt cts
+cts-once d metal t = to d _ 100000000 (omega arith)
 
-cps-once : (d : ℕ) (pipe : Pipe) (p : ℕ) → pipeOk pipe ≡ true → pressureOk p ≡ true → RoundedTo d (cps p (pipe .diameter) (pipe .modulus) (pipe .wall)) (rounded d (cps p (pipe .diameter) (pipe .modulus) (pipe .wall)))
-unfolding cps
+cps-once : (d : ℕ) (pipe : Pipe) (p : ℕ) → pipeOk pipe ≡ true → pressureOk p ≡ true → RoundedTo d (cps p (pipe .diameter) (pipe .modulus) (pipe .wall)) (cpsAt d pipe p)
+unfolding cpsAt cps
 cps-once d pipe p ok pressure = to d _ (pipe .modulus * pipe .wall) (omega (arith, loads {pipe = pipe} {p = p} ok pressure .least))
 
-cpl-once : (d f p : ℕ) → pressureOk p ≡ true → compressibilityOk f ≡ true → RoundedTo d (cpl f p) (rounded d (cpl f p))
-unfolding cpl pressureOk compressibilityOk
-cpl-once d f p pressure ok =
-    let most : f * p ≤ 15000000 = mul-le-mul {n₂ = 10000} {m₂ = 1500} (within-high 0 10000 f ok) (within-high 0 1500 p pressure) in
-    to d 100000000 (100000000 - f * p) (omega arith)
+cpl-once : (d : ℕ) (liquid : Liquid) → liquidOk liquid ≡ true → RoundedTo d (cpl (liquid .compressibility) (liquid .pressure)) (cplAt d liquid)
+unfolding cplAt cplFrom cpl
+cpl-once d liquid ok = to d 100000000 (100000000 - liquid .compressibility * liquid .pressure) (omega (arith, squeezed-little liquid ok))
 
-combined-once : (d : ℕ) (fs : List ℕ) → RoundedTo d (combined d fs) (rounded d (combined d fs))
-unfolding combined
+combined-once : (d : ℕ) (fs : List ℕ) → RoundedTo d (combined d fs) (combinedAt d fs)
+unfolding combinedAt combined
 combined-once d fs = to d (productOf fs) ((10 ^ d) ^ length fs) (one-le-pow (length fs) (10 ^ d) (one-le-pow d 10 (omega arith)))
 
 pub cts-rounded : (d : ℕ) (metal : Metal) (t : ℤ) {q : ℕ} → ctsOf d metal t ≡ done q → RoundedTo d (cts t (coefficientOf metal)) q
 unfolding ctsOf cts
-cts-rounded d metal t is = moved (judged-done (orElse (demand (metalOk metal) 3) (demand (temperatureOk t) 5)) (rounded d (cts t (coefficientOf metal))) is) (cts-once d t (coefficientOf metal))
+cts-rounded d metal t is = moved (judged-done (orElse (demand (metalOk metal) 3) (demand (temperatureOk t) 5)) (ctsAt d metal t) is) (cts-once d metal t)
 
 pub cps-rounded : (d : ℕ) (pipe : Pipe) (p : ℕ) {q : ℕ} → cpsOf d pipe p ≡ done q → RoundedTo d (cps p (pipe .diameter) (pipe .modulus) (pipe .wall)) q
 unfolding cpsOf cps
 cps-rounded d pipe p is =
-    let x = rounded d (cps p (pipe .diameter) (pipe .modulus) (pipe .wall)) in
     let f = orElse (demand (pipeOk pipe) 3) (demand (pressureOk p) 5) in
-    let clear = judged-was f x is in
-    moved (judged-done f x is) (cps-once d pipe p (demand-was (pipeOk pipe) 3 (orElse-fine-first (demand (pipeOk pipe) 3) _ clear)) (demand-was (pressureOk p) 5 (orElse-fine-next (demand (pipeOk pipe) 3) _ clear)))
+    let clear = judged-was f (cpsAt d pipe p) is in
+    moved (judged-done f (cpsAt d pipe p) is)
+    (cps-once d pipe p (demand-was (pipeOk pipe) 3 (orElse-fine-first (demand (pipeOk pipe) 3) _ clear)) (demand-was (pressureOk p) 5 (orElse-fine-next (demand (pipeOk pipe) 3) _ clear)))
 
-pub cpl-rounded : (d f p : ℕ) {q : ℕ} → cplOf d f p ≡ done q → RoundedTo d (cpl f p) q
+pub cpl-rounded : (d : ℕ) (liquid : Liquid) {q : ℕ} → cplOf d liquid ≡ done q → RoundedTo d (cpl (liquid .compressibility) (liquid .pressure)) q
 unfolding cplOf cpl
-cpl-rounded d f p is =
-    let x = rounded d (cpl f p) in
-    let ok : (pressureOk p && compressibilityOk f) ≡ true = demand-was (pressureOk p && compressibilityOk f) 5 (judged-was (demand (pressureOk p && compressibilityOk f) 5) x is) in
-    moved (judged-done (demand (pressureOk p && compressibilityOk f) 5) x is) (cpl-once d f p (both-first (pressureOk p) _ ok) (both-second (pressureOk p) _ ok))
+cpl-rounded d liquid is =
+    let f = demand (liquidOk liquid) 5 in
+    moved (judged-done f (cplAt d liquid) is) (cpl-once d liquid (demand-was (liquidOk liquid) 5 (judged-was f (cplAt d liquid) is)))
 
 -- 'A combined factor is the exact product of the rounded factors, then one rounding.'
 held-is : (fits : Bool) (n : ℕ) {q : ℕ} → cond fits (Held n) TooLarge ≡ Held q → n ≡ q
@@ -130,7 +136,7 @@ taken-is false n is = cc
 
 pub combined-rounded : (d : ℕ) (fs : List ℕ) {q : ℕ} → combinedOf d fs ≡ Held q → RoundedTo d (combined d fs) q
 unfolding combinedOf combined
-combined-rounded d fs is = moved (taken-is (leb (length fs) 4) (rounded d (combined d fs)) is) (combined-once d fs)
+combined-rounded d fs is = moved (taken-is (leb (length fs) 4) (combinedAt d fs) is) (combined-once d fs)
 
 -- ---- a run
 
@@ -139,13 +145,13 @@ pub record RunRounded (prover : Prover) (k : ℕ) (run : Run) (f : Figures) : Ty
   -- 'Indicated volume = pulses ÷ K', K in 0.001 pulse per barrel
   pub indicated-volume : RoundedTo 4 (run .pulses * 1000 over k) (f .indicated)
   pub steel-temperature : RoundedTo 4 (cts (run .prover .temperature) (coefficientOf (prover .metal))) (f .cts)
-  pub steel-pressure : RoundedTo 4 (cps (run .prover .pressure) (prover .pipe .diameter) (prover .pipe .modulus) (prover .pipe .wall)) (f .cps)
-  pub prover-liquid : RoundedTo 4 (cpl (run .prover .compressibility) (run .prover .pressure)) (f .prover .cpl)
+  pub steel-pressure : RoundedTo 4 (cps (run .prover .liquid .pressure) (prover .pipe .diameter) (prover .pipe .modulus) (prover .pipe .wall)) (f .cps)
+  pub prover-liquid : RoundedTo 4 (cpl (run .prover .liquid .compressibility) (run .prover .liquid .pressure)) (f .prover .cpl)
   -- 'Prover factor from CTS, CPS, CTL and CPL at the prover'
   pub prover-factor : RoundedTo 4 (combined 4 (f .cts ∷ f .cps ∷ run .prover .ctl ∷ f .prover .cpl ∷ [])) (f .prover .factor)
   -- 'Corrected prover volume = base volume × prover factor'
   pub prover-volume : RoundedTo 4 (prover .base * f .prover .factor over 100000000) (f .prover .volume)
-  pub meter-liquid : RoundedTo 4 (cpl (run .meter .compressibility) (run .meter .pressure)) (f .meter .cpl)
+  pub meter-liquid : RoundedTo 4 (cpl (run .meter .liquid .compressibility) (run .meter .liquid .pressure)) (f .meter .cpl)
   -- 'meter factor product from CTL and CPL at the meter'
   pub meter-factor : RoundedTo 4 (combined 4 (run .meter .ctl ∷ f .meter .cpl ∷ [])) (f .meter .factor)
   -- 'Corrected meter volume = indicated volume × meter product'
@@ -159,8 +165,8 @@ unfolding runFactorOk rounded roundedDiv
 divisor-some n zero ok = let low : 8000 ≤ 0 = within-low 8000 12000 0 (ap runFactorOk (sym (div-zero (2 * (n * 10 ^ 4) + 0))) ∙ ok) in absurd (omega arith)
 divisor-some n (suc d) ok = omega arith
 
-pub figures-rounded : (prover : Prover) (k : ℕ) (run : Run) → proverOk prover ≡ true → kFactorOk k ≡ true → fieldsOk run ≡ true → runFactorOk (figuresOf prover k run .factor) ≡ true → RunRounded prover k run (figuresOf prover k run)
-unfolding figuresOf figuresFrom indicated steelCts steelCps liquidCpl correctedBy atProver atMeter kFactorOk
+pub figures-rounded : (prover : Prover) (k : ℕ) (run : Run) → proverOk prover ≡ true → kFactorOk k ≡ true → runOk run ≡ true → runFactorOk (figuresOf prover k run .factor) ≡ true → RunRounded prover k run (figuresOf prover k run)
+unfolding figuresOf figuresFrom indicated steelCts steelCps correctedBy correctedAt atProver atMeter kFactorOk
 figures-rounded prover k run settings kOk fits factorOk =
     let p : ProverFits prover = prover-fits prover settings in
     let r : RunFits run = run-fits run fits in
@@ -168,37 +174,35 @@ figures-rounded prover k run settings kOk fits factorOk =
     let at-meter : SideFits (run .meter) = side-fits (run .meter) (r .meter) in
     record {
       indicated-volume = to 4 (run .pulses * 1000) k (omega (arith, within-low 1 1000000000 k kOk));
-      steel-temperature = cts-once 4 (run .prover .temperature) (coefficientOf (prover .metal));
-      steel-pressure = cps-once 4 (prover .pipe) (run .prover .pressure) (p .pipe) (at-prover .pressure);
-      prover-liquid = cpl-once 4 (run .prover .compressibility) (run .prover .pressure) (at-prover .pressure) (at-prover .compressibility);
+      steel-temperature = cts-once 4 (prover .metal) (run .prover .temperature);
+      steel-pressure = cps-once 4 (prover .pipe) (run .prover .liquid .pressure) (p .pipe) (pressure-fits (run .prover .liquid) (at-prover .liquid));
+      prover-liquid = cpl-once 4 (run .prover .liquid) (at-prover .liquid);
       prover-factor = combined-once 4 _;
       prover-volume = to 4 _ 100000000 (omega arith);
-      meter-liquid = cpl-once 4 (run .meter .compressibility) (run .meter .pressure) (at-meter .pressure) (at-meter .compressibility);
+      meter-liquid = cpl-once 4 (run .meter .liquid) (at-meter .liquid);
       meter-factor = combined-once 4 _;
       meter-volume = to 4 _ 100000000 (omega arith);
       run-factor = to 4 _ _ (divisor-some _ _ factorOk);
     }
 
 pub run-rounded : (prover : Prover) (k : ℕ) (run : Run) (at : ℕ) {f : Figures} → workedOf prover k run at ≡ done f → RunRounded prover k run f
-unfolding workedOf figuresFault
+unfolding workedOf figuresTold givenFault figuresFault
 run-rounded prover k run at {f} is =
     let x = figuresOf prover k run in
+    let given = orElse (demand (proverOk prover) 3) (orElse (demand (kFactorOk k) 4) (demandAt (runOk run) 5 at)) in
     let own = orElse (demandAt (volumeOk (x .indicated)) 7 at) (demandAt (runFactorOk (x .factor)) 8 at) in
-    let from3 = orElse (demand (proverOk prover) 3) (orElse (demand (kFactorOk k) 4) (orElse (demandAt (fieldsOk run) 5 at) own)) in
-    let clear = judged-was from3 x is in
-    let from4 = orElse-fine-next (demand (proverOk prover) 3) _ clear in
-    let from5 = orElse-fine-next (demand (kFactorOk k) 4) _ from4 in
-    let from7 = orElse-fine-next (demandAt (fieldsOk run) 5 at) own from5 in
-    subst (λ (g : Figures). RunRounded prover k run g) (judged-done from3 x is)
+    let parts = unless-done given (judged own x) is in
+    let from4 = orElse-fine-next (demand (proverOk prover) 3) _ (parts .0) in
+    subst (λ (g : Figures). RunRounded prover k run g) (judged-done own x (parts .1))
     (figures-rounded prover k run
-    (demand-was (proverOk prover) 3 (orElse-fine-first (demand (proverOk prover) 3) _ clear))
+    (demand-was (proverOk prover) 3 (orElse-fine-first (demand (proverOk prover) 3) _ (parts .0)))
     (demand-was (kFactorOk k) 4 (orElse-fine-first (demand (kFactorOk k) 4) _ from4))
-    (demandAt-was (fieldsOk run) 5 at (orElse-fine-first (demandAt (fieldsOk run) 5 at) own from5))
-    (demandAt-was (runFactorOk (x .factor)) 8 at (orElse-fine-next (demandAt (volumeOk (x .indicated)) 7 at) _ from7)))
+    (demandAt-was (runOk run) 5 at (orElse-fine-next (demand (kFactorOk k) 4) _ from4))
+    (demandAt-was (runFactorOk (x .factor)) 8 at (orElse-fine-next (demandAt (volumeOk (x .indicated)) 7 at) _ (judged-was own x (parts .1)))))
 
 -- every run of an acceptable job
-pub accepted-run-rounded : (prover : Prover) (k limit : ℕ) (s : List ℕ) → Acceptable prover k limit s → (i : ℕ) → i < runsIn s → RunRounded prover k (runAt s (32 * i)) (figuresOf prover k (runAt s (32 * i)))
-accepted-run-rounded prover k limit s ok i h = figures-rounded prover k (runAt s (32 * i)) (ok .input .settings) (ok .input .kFactor) (ok .input .fields i h) (ok .figures .factor i h)
+pub accepted-run-rounded : (prover : Prover) (k limit : ℕ) (s : List ℕ) → Acceptable prover k limit s → (i : ℕ) → i < runsIn s → RunRounded prover k (runAt runSize s i) (figuresOf prover k (runAt runSize s i))
+accepted-run-rounded prover k limit s ok i h = figures-rounded prover k (runAt runSize s i) (ok .input .settings) (ok .input .kFactor) (ok .input .fields i h) (ok .figures .factor i h)
 
 -- the mean of n values is their sum over n
 mean-rounded : (f : ℕ → ℕ) (n at : ℕ) → 0 < n → RoundedOnce (sumOf (listed f n at)) n (meanOf (listed f n at))
@@ -226,56 +230,56 @@ pub record FillRounded (metal : Metal) (s : List ℕ) (i : ℕ) (f : FillFigures
   pub drawn-volume : RoundedOnce (f .adjusted * fillAt s i .ctdw * f .ccts) (10 ^ 12) (f .drawn)
 
 -- CTS is nowhere near zero
-cts-some : (metal : Metal) (t : ℤ) → metalOk metal ≡ true → temperatureOk t ≡ true → 0 < rounded 6 (cts t (coefficientOf metal))
-unfolding cts metalOk coefficientOk rounded
+cts-some : (metal : Metal) (t : ℤ) → metalOk metal ≡ true → temperatureOk t ≡ true → 0 < ctsAt 6 metal t
+unfolding ctsAt cts metalOk coefficientOk rounded
 cts-some metal t m ok =
     let gc : coefficientOf metal ≤ 400 = within-high 100 400 _ m in
     at-least _ 1 (omega arith) (omega (arith, parts _ gc (warm t ok)))
 
-pub fill-rounded : (metal : Metal) (s : List ℕ) (i : ℕ) → metalOk metal ≡ true → fillFieldsOk (fillAt s i) ≡ true → FillRounded metal s i (fillFigures metal (fillAt s i))
+pub fill-rounded : (metal : Metal) (s : List ℕ) (i : ℕ) → metalOk metal ≡ true → fillOk (fillAt s i) ≡ true → FillRounded metal s i (fillFigures metal (fillAt s i))
 unfolding fillFigures adjusted measureCts proverCts ccts drawn
 fill-rounded metal s i m ok =
     record {
       adjusted-measure = refl;
-      measure-steel = cts-once 6 (fillAt s i .measure) (fillAt s i .coefficient);
-      prover-steel = cts-once 6 (fillAt s i .prover) (coefficientOf metal);
+      measure-steel = cts-once 6 (Certified (fillAt s i .coefficient)) (fillAt s i .measure);
+      prover-steel = cts-once 6 metal (fillAt s i .prover);
       steel-ratio = to 6 _ _ (cts-some metal (fillAt s i .prover) m (fields (fillAt s i) ok .prover));
       drawn-volume = once _ (10 ^ 12) (omega arith);
     }
 
 -- 'A pass is the sum of its fills, divided by the unrounded product CPS × CPL, then rounded', each factor counting 10^-6
 pub record PassRounded (prover : Prover) (s : List ℕ) (pass : ℕ) : Type 0 where
-  pub pipe-pressure : RoundedTo 6 (cps (passPressure s pass) (prover .pipe .diameter) (prover .pipe .modulus) (prover .pipe .wall)) (pipeFactor (prover .pipe) (passPressure s pass))
-  pub water-pressure : RoundedTo 6 (cpl 320 (passPressure s pass)) (waterFactor (passPressure s pass))
-  pub pass-volume : RoundedOnce (passSum (prover .metal) s pass * 10 ^ 12) (pipeFactor (prover .pipe) (passPressure s pass) * waterFactor (passPressure s pass)) (passVolume prover s pass)
+  pub pipe-pressure : RoundedTo 6 (cps (passPressure s pass) (prover .pipe .diameter) (prover .pipe .modulus) (prover .pipe .wall)) (cpsAt 6 (prover .pipe) (passPressure s pass))
+  pub water-pressure : RoundedTo 6 (cpl waterCompressibility (passPressure s pass)) (cplAt 6 (waterAt (passPressure s pass)))
+  pub pass-volume : RoundedOnce (passSum (prover .metal) s pass * 10 ^ 12) (cpsAt 6 (prover .pipe) (passPressure s pass) * cplAt 6 (waterAt (passPressure s pass))) (passVolume prover s pass)
 
-pipe-some : (pipe : Pipe) (p : ℕ) → pipeOk pipe ≡ true → pressureOk p ≡ true → 0 < pipeFactor pipe p
-unfolding pipeFactor cps rounded
+pipe-some : (pipe : Pipe) (p : ℕ) → pipeOk pipe ≡ true → pressureOk p ≡ true → 0 < cpsAt 6 pipe p
+unfolding cpsAt cps rounded
 pipe-some pipe p fits ok =
     let l : Loads pipe p = loads fits ok in
     at-least ((pipe .modulus * pipe .wall + p * pipe .diameter) * 1000000) 1 (omega arith) (omega arith)
 
-water-some : (p : ℕ) → pressureOk p ≡ true → 0 < waterFactor p
-unfolding waterFactor cpl rounded pressureOk
+water-some : (p : ℕ) → pressureOk p ≡ true → 0 < cplAt 6 (waterAt p)
+unfolding cplAt cplFrom waterAt cpl rounded pressureOk
 water-some p ok = let high : p ≤ 1500 = within-high 0 1500 p ok in at-least (100000000 * 1000000) 1 (omega arith) (omega arith)
 
 pass-pressure-ok : (prover : Prover) (s : List ℕ) → InputWithin prover s → (pass : ℕ) → pressureOk (passPressure s pass) ≡ true
 unfolding passPressure pressureOk
-pass-pressure-ok prover s input pass = by-place (firstPlace (isOf s pass) (fillsIn s) 0) refl
+pass-pressure-ok prover s input pass = by-place (firstPlace (isOf s pass) (recordsIn 32 s) 0) refl
   where
-    by-place : (o : Option ℕ) → firstPlace (isOf s pass) (fillsIn s) 0 ≡ o → pressureOk (pressureAt s o) ≡ true
+    by-place : (o : Option ℕ) → firstPlace (isOf s pass) (recordsIn 32 s) 0 ≡ o → pressureOk (pressureAt s o) ≡ true
     by-place none is = refl
     by-place (some i) is =
-        let first : First (isOf s pass) (fillsIn s) 0 i = place-first (isOf s pass) (fillsIn s) 0 is in
+        let first : First (isOf s pass) (recordsIn 32 s) 0 i = place-first (isOf s pass) (recordsIn 32 s) 0 is in
         fields (fillAt s i) (input .fields i (omega (arith, first .below))) .pressure
 
 pub pass-rounded : (prover : Prover) (s : List ℕ) → InputWithin prover s → (pass : ℕ) → PassRounded prover s pass
-unfolding passVolume correctedVolume pipeFactor waterFactor compressibilityOk
+unfolding passVolume correctedVolume waterAt
 pass-rounded prover s input pass =
     let ok = pass-pressure-ok prover s input pass in
     record {
       pipe-pressure = cps-once 6 (prover .pipe) (passPressure s pass) (input .pipe) ok;
-      water-pressure = cpl-once 6 320 (passPressure s pass) ok refl;
+      water-pressure = cpl-once 6 (waterAt (passPressure s pass)) (water-ok (passPressure s pass) ok);
       pass-volume = once _ _ (mul-pos (pipe-some (prover .pipe) (passPressure s pass) (input .pipe) ok) (water-some (passPressure s pass) ok));
     }
 
@@ -295,20 +299,19 @@ base-rounded prover s b used = (
 
 -- 01, 'Ticket': every figure is its formula on the rounded figures before it
 pub record TicketRounded (t : Ticket) (v : Volumes) : Type 0 where
-  pub liquid : RoundedTo 4 (cpl (t .compressibility) (t .pressure)) (cplFrom t)
+  pub liquid : RoundedTo 4 (cpl (t .liquid .compressibility) (t .liquid .pressure)) (cplAt 4 (t .liquid))
   -- 'Factor = meter factor × CTL × CPL (from the ticket's P and F), 4 places'
-  pub ticket-factor : RoundedTo 4 (combined 4 (t .mf ∷ t .ctl ∷ cplFrom t ∷ [])) (v .factor)
+  pub ticket-factor : RoundedTo 4 (combined 4 (t .mf ∷ t .ctl ∷ cplAt 4 (t .liquid) ∷ [])) (v .factor)
   -- 'Gross standard = indicated × factor, to 0.01'
   pub gross-standard : RoundedOnce ((t .closing - t .opening) * v .factor) 10000 (v .gross)
   -- 'Net = gross × (100000 - S) ÷ 100000'
   pub net-volume : RoundedOnce (v .gross * (100000 - t .sediment)) 100000 (v .net)
 
-volumes-rounded : (t : Ticket) → Bounds t → TicketRounded t (volumes t)
-unfolding volumes measured cplFrom factor gross net cpl
-volumes-rounded t b =
-    let most : t .compressibility * t .pressure ≤ 15000000 = mul-le-mul {n₂ = 10000} {m₂ = 1500} (b .compressibility) (b .pressure) in
+volumes-rounded : (t : Ticket) → liquidOk (t .liquid) ≡ true → TicketRounded t (volumes t)
+unfolding volumes measured factor gross net
+volumes-rounded t ok =
     record {
-      liquid = to 4 100000000 (100000000 - t .compressibility * t .pressure) (omega arith);
+      liquid = cpl-once 4 (t .liquid) ok;
       ticket-factor = combined-once 4 _;
       gross-standard = once _ 10000 (omega arith);
       net-volume = once _ 100000 (omega arith);
@@ -317,6 +320,6 @@ volumes-rounded t b =
 pub ticket-rounded : (t : Ticket) {v : Volumes} → ticketOf t ≡ done v → TicketRounded t v
 unfolding ticketOf
 ticket-rounded t {v} is =
-    let f = orElse (demand (ticketFieldsOk t) 10) (demand (leb (t .opening) (t .closing)) 11) in
-    let ok = demand-was (ticketFieldsOk t) 10 (orElse-fine-first (demand (ticketFieldsOk t) 10) _ (judged-was f (volumes t) is)) in
-    subst (λ (w : Volumes). TicketRounded t w) (judged-done f (volumes t) is) (volumes-rounded t (in-range t ok))
+    let f = orElse (demand (ticketOk t) 10) (demand (leb (t .opening) (t .closing)) 11) in
+    let ok = demand-was (ticketOk t) 10 (orElse-fine-first (demand (ticketOk t) 10) _ (judged-was f (volumes t) is)) in
+    subst (λ (w : Volumes). TicketRounded t w) (judged-done f (volumes t) is) (volumes-rounded t (in-range t ok .liquid))

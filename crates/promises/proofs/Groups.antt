@@ -9,8 +9,8 @@ use lib.ListN.{length, getD}
 use lib.Seq.{ext-getD}
 use Rattle.group.specs.Repeatability.{qualifies, groupAt, firstGroup}
 use Rattle.group.proofs.Groups.{FirstGroup, group-length, group-value, none-found}
-use Rattle.proving.specs.Job.{listed}
-use Rattle.proving.proofs.Laws.{listed-value, listed-length}
+use Rattle.group.specs.Listed.{listed}
+use Rattle.group.proofs.Listed.{listed-value, listed-length}
 
 pub apart : true ≡ false → ⊥
 apart is = let z : _≡_ {A = ℕ} 0 1 = cc in omega arith

@@ -3,34 +3,35 @@
 use mathlib.Core.Path.{_≡_}
 use mathlib.Core.Bool.{true}
 use mathlib.Core.List.{List}
-use Prim.Native.Nat.{ℕ, _+_, _*_, _%_, _≤_, _<_}
+use Prim.Native.Nat.{ℕ, _+_, _%_, _≤_, _<_}
 use lib.ListN.{length}
 use Rattle.ranges.specs.Table.{runsOk, kFactorOk, limitOk, volumeOk, runFactorOk}
+use Rattle.factors.specs.Prover.{proverOk}
 use Rattle.factors.specs.declared.Prover.{Prover}
 use Rattle.group.specs.Mean.{meanOf}
 use Rattle.group.specs.Repeatability.{qualifies}
+use Rattle.group.specs.Listed.{listed}
 use Rattle.report.specs.Record.{listOf}
 use Rattle.report.specs.declared.Report.{Report}
-use Rattle.run.specs.Record.{runAt, fieldsOk, unnamedOk}
+use Rattle.run.specs.Record.{runSize, runAt, runOk, unnamedOk}
 use Rattle.run.specs.Figures.{figuresOf}
-use Rattle.run.specs.Answers.{proverOk}
 use Rattle.proving.specs.Judging.{runsIn}
-use Rattle.proving.specs.Job.{factorAt, listed}
+use Rattle.proving.specs.Job.{factorAt}
 
 -- 'its input .. within limits': 5 to 20 whole records, the settings, K, the limit, and of every record its fields and its unnamed bytes
 pub record InputWithin (prover : Prover) (k limit : ℕ) (s : List ℕ) : Type 0 where
-  pub whole : length s % 32 ≡ 0
+  pub whole : length s % runSize ≡ 0
   pub runs : runsOk (runsIn s) ≡ true
   pub settings : proverOk prover ≡ true
   pub kFactor : kFactorOk k ≡ true
   pub limits : limitOk limit ≡ true
-  pub fields : (i : ℕ) → i < runsIn s → fieldsOk (runAt s (32 * i)) ≡ true
-  pub unnamed : (i : ℕ) → i < runsIn s → unnamedOk s (32 * i) ≡ true
+  pub fields : (i : ℕ) → i < runsIn s → runOk (runAt runSize s i) ≡ true
+  pub unnamed : (i : ℕ) → i < runsIn s → unnamedOk runSize s i ≡ true
 
 -- 'each run's own figures are within limits': its indicated volume and its factor
 pub record FiguresWithin (prover : Prover) (k : ℕ) (s : List ℕ) : Type 0 where
-  pub volume : (i : ℕ) → i < runsIn s → volumeOk (figuresOf prover k (runAt s (32 * i)) .indicated) ≡ true
-  pub factor : (i : ℕ) → i < runsIn s → runFactorOk (figuresOf prover k (runAt s (32 * i)) .factor) ≡ true
+  pub volume : (i : ℕ) → i < runsIn s → volumeOk (figuresOf prover k (runAt runSize s i) .indicated) ≡ true
+  pub factor : (i : ℕ) → i < runsIn s → runFactorOk (figuresOf prover k (runAt runSize s i) .factor) ≡ true
 
 -- 'five consecutive runs .. meet the repeatability limit': there are five from place `at` on (places from 0), and their factors qualify
 pub record FiveMeet (prover : Prover) (k limit : ℕ) (s : List ℕ) (at : ℕ) : Type 0 where

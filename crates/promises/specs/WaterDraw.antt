@@ -7,15 +7,16 @@ use Prim.Native.Nat.{ℕ, _+_, _%_, _≤_, _<_}
 use lib.ListN.{length}
 use Rattle.ranges.specs.Table.{fillsOk, passesOk}
 use Rattle.factors.specs.Metal.{metalOk}
-use Rattle.factors.specs.Answers.{pipeOk}
+use Rattle.factors.specs.Prover.{pipeOk}
 use Rattle.factors.specs.declared.Prover.{Prover}
 use Rattle.group.specs.Mean.{meanOf}
 use Rattle.group.specs.Repeatability.{qualifies}
-use Rattle.draw.specs.Fill.{fillAt, fieldsOk, unnamedOk, ruleOk}
-use Rattle.draw.specs.Passes.{fillsIn, passCount, passVolume}
+use Rattle.group.specs.Listed.{listed}
+use Rattle.octets.specs.Records.{recordsIn}
+use Rattle.draw.specs.Fill.{fillAt, fillOk, unnamedOk, ruleOk}
+use Rattle.draw.specs.Passes.{passCount, passVolume}
 use Rattle.draw.specs.Base.{barrelsOf}
 use Rattle.draw.specs.declared.BaseVolume.{BaseVolume}
-use Rattle.proving.specs.Job.{listed}
 
 -- the volume of the pass at a place from 0; passes count from 1
 unfoldable pub volumeAt : Prover → List ℕ → ℕ → ℕ
@@ -25,12 +26,12 @@ volumeAt prover s i = passVolume prover s (i + 1)
 -- pass rule, and 3 to 20 passes. (A pass has no range of its own.)
 pub record InputWithin (prover : Prover) (s : List ℕ) : Type 0 where
   pub whole : length s % 32 ≡ 0
-  pub fills : fillsOk (fillsIn s) ≡ true
+  pub fills : fillsOk (recordsIn 32 s) ≡ true
   pub metal : metalOk (prover .metal) ≡ true
   pub pipe : pipeOk (prover .pipe) ≡ true
-  pub fields : (i : ℕ) → i < fillsIn s → fieldsOk (fillAt s i) ≡ true
-  pub unnamed : (i : ℕ) → i < fillsIn s → unnamedOk s i ≡ true
-  pub rule : (i : ℕ) → i < fillsIn s → ruleOk s i ≡ true
+  pub fields : (i : ℕ) → i < recordsIn 32 s → fillOk (fillAt s i) ≡ true
+  pub unnamed : (i : ℕ) → i < recordsIn 32 s → unnamedOk s i ≡ true
+  pub rule : (i : ℕ) → i < recordsIn 32 s → ruleOk s i ≡ true
   pub passes : passesOk (passCount s) ≡ true
 
 -- 'three passes of water, meet the repeatability limit', which is 2: there are three from place `at` on, and their volumes qualify
