@@ -2,11 +2,12 @@
 -- zero, when refused.
 use mathlib.Core.List.{List}
 use Prim.Native.Nat.{ℕ, _*_}
-use lib.IntN.{ℤ, pos, natAbs}
+use lib.IntN.{pos}
 use Rattle.refusals.specs.Told.{Told, done, refused}
 use Rattle.exact.specs.declared.Quotient.{Quotient}
 use Rattle.exact.specs.declared.Quotient.the-variants.{Value, ZeroDivisor, TooLarge}
 use Rattle.report.specs.declared.Report.{Report}
+use Rattle.run.specs.Record.{runSize}
 use Rattle.run.specs.declared.Corrected.{Corrected}
 use Rattle.run.specs.declared.Figures.{Figures}
 use Rattle.draw.specs.declared.FillFigures.{FillFigures}
@@ -73,9 +74,9 @@ reportWith number at r =
 unfoldable pub flatReport : Told Report → EndakuroReport
 flatReport t = reportWith (numberIn t) (recordIn t) (valuesIn noReport t)
 
--- 'the five accepted run records .. as a part of the lent records': 160 bytes from the place that was found; none on refusal
+-- 'the five accepted run records .. as a part of the lent records': five records from the place that was found; none on refusal
 abbrev pub partOf : Told ℕ → EndakuroPart
-partOf (done at) = record { start = 32 * at; length = 160 }
+partOf (done at) = record { start = runSize * at; length = 5 * runSize }
 partOf (refused number at) = record { start = 0; length = 0 }
 
 -- one run's figures
@@ -151,12 +152,12 @@ volumesWith number at v = record { number = number; at = at; factor = v .factor;
 unfoldable pub flatVolumes : Told Volumes → EndakuroVolumes
 flatVolumes t = volumesWith (numberIn t) (recordIn t) (valuesIn noVolumes t)
 
--- a live reading; its pressure is not below zero
+-- a live reading
 abbrev pub noReading : Values
-noReading = record { tenths = pos 0; psi = pos 0 }
+noReading = record { tenths = pos 0; psi = 0 }
 
 abbrev pub liveWith : ℕ → ℕ → Values → EndakuroLive
-liveWith number at v = record { number = number; at = at; tenths = v .tenths; psi = natAbs (v .psi) }
+liveWith number at v = record { number = number; at = at; tenths = v .tenths; psi = v .psi }
 
 unfoldable pub flatLive : Told Values → EndakuroLive
 flatLive t = liveWith (numberIn t) (recordIn t) (valuesIn noReading t)

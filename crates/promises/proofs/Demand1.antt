@@ -6,8 +6,7 @@
 use mathlib.Core.Path.{_≡_, refl, ap}
 use mathlib.Core.Bool.{Bool, true, not, _&&_}
 use mathlib.Core.List.{List, [], _∷_}
-use mathlib.Core.Option.{Option, none, some}
-use Prim.Native.Nat.{ℕ, _+_, _*_, _<_}
+use Prim.Native.Nat.{ℕ, _+_, _<_}
 use native.Mathlib.Omega.{arith}
 use lib.Dec.{leb, ltb, eqb}
 use lib.IntN.{ℤ}
@@ -44,28 +43,29 @@ use Rattle.draw.specs.Answers.{recordFault as recordFaultOfFill, fillFault, dra
 use Rattle.ticket.specs.Ranges.{ticketOk}
 use Rattle.ticket.specs.Answers.{ticketOf}
 use Rattle.ticket.specs.declared.Ticket.{Ticket}
-use Rattle.live.specs.Live.{tenthsOf, psiOf, psiOk, readingFault, temperatureFault, pressureFault, liveOf}
+use Rattle.live.specs.Live.{wholeOf, psiOk, liveOf}
+use Rattle.live.proofs.Answers.{singleFault, live-judged}
 use Rattle.book.specs.Line.{isIn}
 use Rattle.book.specs.Figures.{shippers, ceiling, waitingOf, has}
 use Rattle.book.specs.Sound.{isSound}
 use Rattle.book.specs.Calls.{callFault, hasRoom, requestFault, requestOf, afterRequest, withdrawalFault, withdrawalOf, afterWithdrawal, anyWaits, takeFault, takeOf, afterTake, leftBy as bookLeftBy}
 use Rattle.book.specs.declared.Book.{Book}
 use lib.Ieee.Scale.{finite}
-use Rattle.promises.specs.Ending.{isOneOf, starred, recordOk, refusalOk, Ends}
-use Rattle.promises.proofs.Endings.{Finds, by-demand, by-demandAt, by-orElse, by-scan, by-unless, by-judged, by-nine}
+use Rattle.promises.specs.Ending.{isOneOf, markedOf, recordOk, refusalOk, Ends}
+use Rattle.promises.proofs.Endings.{Finds, by-demand, by-demandAt, by-orElse, by-scan, by-unless, by-judged, by-nine, as-told}
 
 -- ---- the factors: 3 for a metal or pipe, 5 for a temperature, pressure or F; no records are handed over
 
 pub cts-ends : (d : ℕ) (metal : Metal) (t : ℤ) → Ends (3 ∷ 5 ∷ []) 0 0 (ctsOf d metal t)
-unfolding ctsOf isOneOf starred recordOk refusalOk
+unfolding ctsOf isOneOf markedOf recordOk refusalOk
 cts-ends d metal t = by-judged _ (by-orElse (by-demand (metalOk metal) 3 refl) (by-demand (temperatureOk t) 5 refl))
 
 pub cps-ends : (d : ℕ) (pipe : Pipe) (p : ℕ) → Ends (3 ∷ 5 ∷ []) 0 0 (cpsOf d pipe p)
-unfolding cpsOf isOneOf starred recordOk refusalOk
+unfolding cpsOf isOneOf markedOf recordOk refusalOk
 cps-ends d pipe p = by-judged _ (by-orElse (by-demand (pipeOk pipe) 3 refl) (by-demand (pressureOk p) 5 refl))
 
 pub cpl-ends : (d : ℕ) (liquid : Liquid) → Ends (5 ∷ []) 0 0 (cplOf d liquid)
-unfolding cplOf isOneOf starred recordOk refusalOk
+unfolding cplOf isOneOf markedOf recordOk refusalOk
 cpl-ends d liquid = by-judged _ (by-demand (liquidOk liquid) 5 refl)
 
 -- ---- one run: `at` is the record that the caller names; 'shown' takes one record, which is 1
@@ -80,13 +80,13 @@ unfolding givenFault
 given-finds prover k run at three four five = by-orElse (by-demand (proverOk prover) 3 three) (by-orElse (by-demand (kFactorOk k) 4 four) (by-demandAt (runOk run) 5 at five))
 
 pub worked-ends : (prover : Prover) (k : ℕ) (run : Run) (at : ℕ) → Ends (3 ∷ 4 ∷ 5 ∷ 7 ∷ 8 ∷ []) at at (workedOf prover k run at)
-unfolding workedOf figuresTold isOneOf starred recordOk refusalOk
+unfolding workedOf figuresTold isOneOf markedOf recordOk refusalOk
 worked-ends prover k run at =
     let same : within at at at ≡ true = within-true at at at (omega arith) (omega arith) in
     by-unless (given-finds prover k run at refl refl same) (by-judged _ (own-figures (figuresOf prover k run) at same same))
 
 pub shown-ends : (prover : Prover) (k : ℕ) (s : List ℕ) → Ends (1 ∷ 3 ∷ 4 ∷ 5 ∷ 2 ∷ 7 ∷ 8 ∷ []) 1 1 (shownOf prover k s)
-unfolding shownOf figuresTold isOneOf starred recordOk refusalOk
+unfolding shownOf figuresTold isOneOf markedOf recordOk refusalOk
 shown-ends prover k s =
     by-unless
     (by-orElse (by-demand (eqb (length s) runSize) 1 refl)
@@ -119,7 +119,7 @@ of-records : (n i : ℕ) → i < n → within 1 n (i + 1) ≡ true
 of-records n i h = within-true 1 n (i + 1) (omega arith) (omega arith)
 
 pub job-ends : (request : ℕ) (prover : Prover) (k limit : ℕ) (s : List ℕ) (size : ℕ) → Ends (14 ∷ 22 ∷ 1 ∷ 3 ∷ 4 ∷ 5 ∷ 2 ∷ 7 ∷ 8 ∷ 9 ∷ []) 1 (runsIn s) (jobOf request prover k limit s size)
-unfolding jobOf isOneOf starred recordOk refusalOk
+unfolding jobOf isOneOf markedOf recordOk refusalOk
 job-ends request prover k limit s size =
     let of = of-records (runsIn s) in
     by-unless (by-orElse (by-demand (eqb size 32) 14 refl) (by-demand (not (eqb request 0)) 22 refl))
@@ -127,7 +127,7 @@ job-ends request prover k limit s size =
 
 -- the entry that hands run records back, without buffer or request number
 pub found-ends : (prover : Prover) (k limit : ℕ) (s : List ℕ) → Ends (1 ∷ 3 ∷ 4 ∷ 5 ∷ 2 ∷ 7 ∷ 8 ∷ 9 ∷ []) 1 (runsIn s) (foundOf prover k limit s)
-unfolding foundOf isOneOf starred recordOk refusalOk
+unfolding foundOf isOneOf markedOf recordOk refusalOk
 found-ends prover k limit s =
     let of = of-records (runsIn s) in
     by-unless (input-finds prover k limit s refl refl refl of of of of) (by-nine (firstFive prover k limit s) (λ at. at) refl)
@@ -140,11 +140,11 @@ none-when-refused prover k limit s is = ap (λ (t : Told ℕ). acceptedBy runSiz
 -- ---- the report: 'A report read: 14, 15. The report writer alone ..: 14, 22, 15.'
 
 pub write-ends : (size number runs first : ℕ) (factors : Factors) → Ends (14 ∷ 22 ∷ 15 ∷ []) 0 0 (writeOf size number runs first factors)
-unfolding writeOf isOneOf starred recordOk refusalOk
+unfolding writeOf isOneOf markedOf recordOk refusalOk
 write-ends size number runs first factors = by-judged _ (by-orElse (by-demand (eqb size 32) 14 refl) (by-orElse (by-demand (not (eqb number 0)) 22 refl) (by-demand (jobOk runs first (listOf factors)) 15 refl)))
 
 pub read-ends : (s : List ℕ) → Ends (14 ∷ 15 ∷ []) 0 0 (readOf s)
-unfolding readOf isOneOf starred recordOk refusalOk
+unfolding readOf isOneOf markedOf recordOk refusalOk
 read-ends s = by-judged _ (by-orElse (by-demand (eqb (length s) 32) 14 refl) (by-demand (isReport s) 15 refl))
 
 -- ---- a water draw: 'drops 14, 22, 4'; 'records first to last, each with 5, 2, 6'; 'more or fewer passes than 3 to 20 is 1'; then 9
@@ -154,7 +154,7 @@ unfolding recordFaultOfFill
 record-finds s i five two = by-orElse (by-demandAt (fillOk (fillAt s i)) 5 (i + 1) five) (by-demandAt (fillUnnamedOk s i) 2 (i + 1) two)
 
 pub fill-ends : (metal : Metal) (s : List ℕ) → Ends (1 ∷ 3 ∷ 5 ∷ 2 ∷ []) 1 1 (fillOf metal s)
-unfolding fillOf isOneOf starred recordOk refusalOk
+unfolding fillOf isOneOf markedOf recordOk refusalOk
 fill-ends metal s = by-judged _ (by-orElse (by-demand (eqb (length s) 32) 1 refl) (by-orElse (by-demand (metalOk metal) 3 refl) (record-finds s 0 refl refl)))
 
 draw-finds : {numbers : List ℕ} (prover : Prover) (s : List ℕ) → Given numbers (recordsIn 32 s) 1 → Given numbers (recordsIn 32 s) 3 → Carried numbers (recordsIn 32 s) 5 → Carried numbers (recordsIn 32 s) 2 → Carried numbers (recordsIn 32 s) 6 → Finds numbers 1 (recordsIn 32 s) (drawFault prover s)
@@ -167,11 +167,11 @@ draw-finds prover s one three five two six =
     (by-demand (passesOk (passCount s)) 1 one)))
 
 pub passes-end : (prover : Prover) (s : List ℕ) → Ends (1 ∷ 3 ∷ 5 ∷ 2 ∷ 6 ∷ []) 1 (recordsIn 32 s) (passesOf prover s)
-unfolding passesOf isOneOf starred recordOk refusalOk
+unfolding passesOf isOneOf markedOf recordOk refusalOk
 passes-end prover s = by-judged _ (let of = of-records (recordsIn 32 s) in draw-finds prover s refl refl of of of)
 
 pub draw-ends : (prover : Prover) (s : List ℕ) → Ends (1 ∷ 3 ∷ 5 ∷ 2 ∷ 6 ∷ 9 ∷ []) 1 (recordsIn 32 s) (drawOf prover s)
-unfolding drawOf baseOf isOneOf starred recordOk refusalOk
+unfolding drawOf baseOf isOneOf markedOf recordOk refusalOk
 draw-ends prover s =
     let of = of-records (recordsIn 32 s) in
     by-unless (draw-finds prover s refl refl of of of) (by-nine (firstGroup 2 3 (volumesOf prover s)) _ refl)
@@ -179,27 +179,28 @@ draw-ends prover s =
 -- ---- 'A ticket: 10, 11.' A live reading: 12, 13.
 
 pub ticket-ends : (t : Ticket) → Ends (10 ∷ 11 ∷ []) 0 0 (ticketOf t)
-unfolding ticketOf isOneOf starred recordOk refusalOk
+unfolding ticketOf isOneOf markedOf recordOk refusalOk
 ticket-ends t = by-judged _ (by-orElse (by-demand (ticketOk t) 10 refl) (by-demand (leb (t .opening) (t .closing)) 11 refl))
 
-reading-finds : (x : Float) (ok : Bool) → Finds (12 ∷ 13 ∷ []) 0 0 (readingFault x ok)
-unfolding readingFault isOneOf starred recordOk refusalOk
-reading-finds x ok = by-orElse (by-demand (finite x) 12 refl) (by-demand ok 13 refl)
+single-finds : (inRange : ℤ → Bool) (z : ℤ) (x : Float) → Finds (12 ∷ 13 ∷ []) 0 0 (singleFault inRange z x)
+unfolding isOneOf markedOf recordOk refusalOk
+single-finds inRange z x = by-orElse (by-demand (finite x) 12 refl) (by-demand (inRange z) 13 refl)
 
 pub live-ends : (temperature pressure : Float) → Ends (12 ∷ 13 ∷ []) 0 0 (liveOf temperature pressure)
-unfolding liveOf temperatureFault pressureFault
-live-ends temperature pressure = by-judged _ (by-orElse (reading-finds temperature (temperatureOk (tenthsOf temperature))) (reading-finds pressure (psiOk (psiOf pressure))))
+live-ends temperature pressure =
+    as-told (live-judged temperature pressure)
+    (by-judged _ (by-orElse (single-finds temperatureOk (wholeOf 0 10 temperature) temperature) (single-finds psiOk (wholeOf 0 1 pressure) pressure)))
 
 -- ---- 'A book call, lowest number first: a request 20 to 25; a withdrawal 20, 21, 22, 26; a take 20, 27.'
 
 -- what the two calls that name a shipper and a number share, on any list that begins so
 call-finds : (book : Book) (shipper number : ℕ) (more : List ℕ) → Finds (20 ∷ 21 ∷ 22 ∷ more) 0 0 (callFault book shipper number)
-unfolding callFault isOneOf starred recordOk refusalOk
+unfolding callFault isOneOf markedOf recordOk refusalOk
 call-finds book shipper number more =
     by-orElse (by-demand (isSound book) 20 refl) (by-orElse (by-demand (ltb shipper shippers) 21 refl) (by-demand (not (eqb number 0)) 22 refl))
 
 pub request-ends : (book : Book) (shipper number : ℕ) → Ends (20 ∷ 21 ∷ 22 ∷ 23 ∷ 24 ∷ 25 ∷ []) 0 0 (requestOf book shipper number)
-unfolding requestOf requestFault isOneOf starred recordOk refusalOk
+unfolding requestOf requestFault isOneOf markedOf recordOk refusalOk
 request-ends book shipper number =
     by-judged _
     (by-orElse (call-finds book shipper number (23 ∷ 24 ∷ 25 ∷ []))
@@ -207,12 +208,12 @@ request-ends book shipper number =
     (by-orElse (by-demand (ltb (has book shipper) (ceiling book shipper)) 24 refl) (by-demand (hasRoom book shipper) 25 refl))))
 
 pub withdrawal-ends : (book : Book) (shipper number : ℕ) → Ends (20 ∷ 21 ∷ 22 ∷ 26 ∷ []) 0 0 (withdrawalOf book shipper number)
-unfolding withdrawalOf withdrawalFault isOneOf starred recordOk refusalOk
+unfolding withdrawalOf withdrawalFault isOneOf markedOf recordOk refusalOk
 withdrawal-ends book shipper number =
     by-judged _ (by-orElse (call-finds book shipper number (26 ∷ [])) (by-demand (isIn number (waitingOf book shipper)) 26 refl))
 
 pub take-ends : (book : Book) → Ends (20 ∷ 27 ∷ []) 0 0 (takeOf book)
-unfolding takeOf takeFault isOneOf starred recordOk refusalOk
+unfolding takeOf takeFault isOneOf markedOf recordOk refusalOk
 take-ends book = by-judged _ (by-orElse (by-demand (isSound book) 20 refl) (by-demand (anyWaits book) 27 refl))
 
 -- ---- 'A refusal writes nothing into a lent buffer': `leftBy t found` is the buffer that the writer and the job leave where they tell t

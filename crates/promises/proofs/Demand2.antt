@@ -4,14 +4,14 @@ use mathlib.Core.Path.{_≡_, refl, sym, ap, _∙_}
 use mathlib.Core.Bool.{true, not, _&&_}
 use mathlib.Core.List.{List, [], _∷_}
 use mathlib.Core.Option.{Option, none, some}
-use Prim.Native.Nat.{ℕ, zero, suc, _+_, _*_, _/_, _%_, _≤_, _<_, _-_}
+use Prim.Native.Nat.{ℕ, _+_, _*_, _/_, _%_, _≤_, _<_, _-_}
 use native.Mathlib.Omega.{arith}
 use borrow.Author.Tests.{eqb-true, eq-eqb, ne-eqb}
 use lib.Dec.{eqb}
 use lib.ListN.{length, getD, take, drop}
-use Rattle.refusals.specs.Told.{Told, done, refused, Fault, fine, fault, demand, demandAt, orElse, unless}
-use Rattle.refusals.proofs.Laws.{demand-holds, demandAt-holds, demand-was, demandAt-was, orElse-next, orElse-fine-first, orElse-fine-next, done-one, refused-not-done}
-use Rattle.ranges.specs.Table.{kFactorOk, limitOk, volumeOk, passesOk, fillsOk, runsOk}
+use Rattle.refusals.specs.Told.{done, refused, Fault, fine, demand, demandAt, orElse}
+use Rattle.refusals.proofs.Laws.{demand-holds, demandAt-holds, demand-was, demandAt-was, orElse-next, orElse-fine-first, orElse-fine-next, done-one, refused-not-done, unless-done, unless-fine}
+use Rattle.ranges.specs.Table.{kFactorOk, limitOk, volumeOk, passesOk, fillsOk}
 use Rattle.octets.specs.Records.{recordsIn, areRecords}
 use Rattle.ranges.proofs.Laws.{both-first, both-second, both-true}
 use Rattle.octets.specs.FirstToLast.{scan}
@@ -71,14 +71,7 @@ parted f g is = (orElse-fine-first f g is, orElse-fine-next f g is)
 joined : {f g : Fault} → f ≡ fine → g ≡ fine → orElse f g ≡ fine
 joined {f} {g} p q = orElse-next g p ∙ q
 
--- a result comes of no fault, and of a group
-pub unless-done : {A : Type 0} (f : Fault) (t : Told A) {x : A} → unless f t ≡ done x → (f ≡ fine) × (t ≡ done x)
-unless-done fine t is = (refl, is)
-unless-done (fault number at) t is = absurd (refused-not-done is)
-
-unless-fine : {A : Type 0} {f : Fault} {t u : Told A} → f ≡ fine → t ≡ u → unless f t ≡ u
-unless-fine {A} {f} {t} clear is = ap (λ (g : Fault). unless g t) clear ∙ is
-
+-- a result comes of a group
 record Chosen {A : Type 0} (o : Option ℕ) (follows : ℕ → A) (x : A) : Type 0 where
   place : ℕ
   found : o ≡ some place

@@ -3,31 +3,25 @@
 use mathlib.Core.Path.{_≡_, refl, sym, ap, _∙_}
 use mathlib.Core.List.{List}
 use Prim.Native.Nat.{ℕ}
-use native.Mathlib.Omega.{arith}
-use lib.IntN.{pos, natAbs}
 use lib.ListN.{take, drop}
-use Rattle.refusals.specs.Table.{numberOf}
 use Rattle.refusals.specs.Told.{Told, done, refused}
-use Rattle.refusals.specs.declared.Refusal.{Refusal}
-use Rattle.refusals.specs.declared.Refusal.the-variants.{Records, UnnamedByte, ProverSetting, KFactorOrLimit, RecordField, PassRule, IndicatedVolume, RunFactor, NoGroup, TicketField, ClosingBelowOpening, ReadingNotFinite, ReadingRange, ReportBuffer, NotReport, BookNotSound, UnknownShipper, NumberZero, AlreadyWaiting, CeilingReached, CommonsFull, NotWaiting, NothingToTake}
+use Rattle.refusals.proofs.Laws.{not-zero}
 use Rattle.factors.specs.Answers.{told as toldFactor}
 use Rattle.factors.specs.declared.Factor.{Factor}
 use Rattle.factors.specs.declared.Factor.the-variants as factor
 use Rattle.factors.specs.declared.Prover.{Prover}
 use Rattle.factors.proofs.Values.{told-one as factor-one}
 use Rattle.report.specs.Judged.{told as toldReport}
-use Rattle.report.specs.declared.Report.{Report}
 use Rattle.report.specs.declared.Answer.{Answer}
 use Rattle.report.specs.declared.Answer.the-variants as answer
 use Rattle.report.proofs.Laws.{told-one as report-one}
+use Rattle.run.specs.Record.{runSize}
 use Rattle.run.specs.Answers.{told as toldRun}
 use Rattle.run.specs.declared.Figures.{Figures}
 use Rattle.run.specs.declared.Worked.{Worked}
 use Rattle.run.specs.declared.Worked.the-variants as worked
 use Rattle.run.proofs.Laws.{told-one as run-one}
 use Rattle.draw.specs.Answers.{toldFill, toldPasses, toldDraw}
-use Rattle.draw.specs.declared.FillFigures.{FillFigures}
-use Rattle.draw.specs.declared.BaseVolume.{BaseVolume}
 use Rattle.draw.specs.declared.FillAnswer.{FillAnswer}
 use Rattle.draw.specs.declared.FillAnswer.the-variants as filled
 use Rattle.draw.specs.declared.Counted.{Counted}
@@ -36,9 +30,8 @@ use Rattle.draw.specs.declared.WaterDraw.{WaterDraw}
 use Rattle.draw.specs.declared.WaterDraw.the-variants as drawn
 use Rattle.draw.proofs.Outcome.{fill-one, passes-one, draw-one}
 use Rattle.ticket.specs.Answers.{told as toldTicket}
-use Rattle.ticket.specs.declared.Volumes.{Volumes}
-use Rattle.ticket.specs.declared.Outcome.{Outcome}
-use Rattle.ticket.specs.declared.Outcome.the-variants as outcome
+use Rattle.ticket.specs.declared.Measured.{Measured}
+use Rattle.ticket.specs.declared.Measured.the-variants as measured
 use Rattle.ticket.proofs.Laws.{told-one as ticket-one}
 use Rattle.live.specs.Live.{told as toldLive}
 use Rattle.live.specs.declared.Live.{Live}
@@ -52,42 +45,7 @@ use Rattle.book.specs.declared.Handout.the-variants as handout
 use Rattle.book.proofs.Outcomes.{change-one, handout-one}
 use Rattle.proving.specs.Job.{foundOf, acceptedBy, acceptedOf}
 use Rattle.api.specs.Flat.{numberIn, recordIn, valuesIn, noReport, noFigures, noFill, noBase, noVolumes, noReading, noHandout, flatFactor, flatReport, flatRun, flatFill, flatPasses, flatDraw, flatVolumes, flatLive, flatDone, flatTaken, partOf}
-use Rattle.api.specs.declared.corrections.EndakuroFactor.{EndakuroFactor}
-use Rattle.api.specs.declared.reports.EndakuroReport.{EndakuroReport}
-use Rattle.api.specs.declared.jobs.EndakuroRun.{EndakuroRun}
-use Rattle.api.specs.declared.water.EndakuroFill.{EndakuroFill}
 use Rattle.api.specs.declared.water.EndakuroPasses.{EndakuroPasses}
-use Rattle.api.specs.declared.water.EndakuroDraw.{EndakuroDraw}
-use Rattle.api.specs.declared.tickets.EndakuroVolumes.{EndakuroVolumes}
-use Rattle.api.specs.declared.readings.EndakuroLive.{EndakuroLive}
-use Rattle.api.specs.declared.books.EndakuroDone.{EndakuroDone}
-use Rattle.api.specs.declared.books.EndakuroTaken.{EndakuroTaken}
-
--- no refusal has number 0
-not-zero : (r : Refusal) → numberOf r ≡ 0 → ⊥
-not-zero Records is = omega arith
-not-zero (UnnamedByte at) is = omega arith
-not-zero ProverSetting is = omega arith
-not-zero KFactorOrLimit is = omega arith
-not-zero (RecordField at) is = omega arith
-not-zero (PassRule at) is = omega arith
-not-zero (IndicatedVolume at) is = omega arith
-not-zero (RunFactor at) is = omega arith
-not-zero NoGroup is = omega arith
-not-zero TicketField is = omega arith
-not-zero ClosingBelowOpening is = omega arith
-not-zero ReadingNotFinite is = omega arith
-not-zero ReadingRange is = omega arith
-not-zero ReportBuffer is = omega arith
-not-zero NotReport is = omega arith
-not-zero BookNotSound is = omega arith
-not-zero UnknownShipper is = omega arith
-not-zero NumberZero is = omega arith
-not-zero AlreadyWaiting is = omega arith
-not-zero CeilingReached is = omega arith
-not-zero CommonsFull is = omega arith
-not-zero NotWaiting is = omega arith
-not-zero NothingToTake is = omega arith
 
 -- what is told is done, or refused with a number that is not 0
 abbrev pub Numbered : {A : Type 0} → Told A → Type 0
@@ -106,59 +64,68 @@ told-one zeros (done x) (refused n a) p q number at values = absurd (q (sym numb
 told-one zeros (refused n a) (done y) p q number at values = absurd (p number)
 told-one zeros (refused n a) (refused m b) p q number at values = λ i. refused (number i) (at i)
 
+-- A flattening that can be read back: its number, its record and its values are those of what was told.
+record ReadBack {A F : Type 0} (zeros : A) (flat : Told A → F) : Type 0 where
+  number : F → ℕ
+  record-at : F → ℕ
+  values : F → A
+  number-is : (t : Told A) → number (flat t) ≡ numberIn t
+  record-is : (t : Told A) → record-at (flat t) ≡ recordIn t
+  values-are : (t : Told A) → values (flat t) ≡ valuesIn zeros t
+
+-- so it loses nothing of an answer whose `told` loses nothing
+module _ {A F R : Type 0} {zeros : A} {flat : Told A → F} (back : ReadBack zeros flat) {told : R → Told A} (one : (a b : R) → told a ≡ told b → a ≡ b) (numbered : (a : R) → Numbered (told a)) where
+  loses-nothing : (a b : R) → flat (told a) ≡ flat (told b) → a ≡ b
+  loses-nothing a b is =
+      one a b
+      (told-one zeros (told a) (told b) (numbered a) (numbered b)
+      (sym (back .number-is (told a)) ∙ ap (back .number) is ∙ back .number-is (told b))
+      (sym (back .record-is (told a)) ∙ ap (back .record-at) is ∙ back .record-is (told b))
+      (sym (back .values-are (told a)) ∙ ap (back .values) is ∙ back .values-are (told b)))
+
 pub factor-numbered : (a : Factor) → Numbered (toldFactor a)
 factor-numbered (factor.Value value) = tt
 factor-numbered (factor.Refused why) = not-zero why
 
-pub factor-loses-nothing : (a b : Factor) → flatFactor (toldFactor a) ≡ flatFactor (toldFactor b) → a ≡ b
+factor-back : ReadBack 0 flatFactor
 unfolding flatFactor
-factor-loses-nothing a b is =
-    factor-one a b (told-one 0 _ _ (factor-numbered a) (factor-numbered b) (ap (λ (f : EndakuroFactor). f .number) is) (ap (λ (f : EndakuroFactor). f .at) is) (ap (λ (f : EndakuroFactor). f .value) is))
+factor-back = record { number = λ f. f .number; record-at = λ f. f .at; values = λ f. f .value; number-is = λ t. refl; record-is = λ t. refl; values-are = λ t. refl }
+
+pub factor-loses-nothing : (a b : Factor) → flatFactor (toldFactor a) ≡ flatFactor (toldFactor b) → a ≡ b
+factor-loses-nothing = loses-nothing factor-back factor-one factor-numbered
 
 pub report-numbered : (a : Answer) → Numbered (toldReport a)
 report-numbered (answer.Fields report) = tt
 report-numbered (answer.Refused why) = not-zero why
 
--- a report's fields, read back from the struct
-reportIn : EndakuroReport → Report
-reportIn f = record { number = f .request; factor = f .factor; first = f .first; runs = f .runs; factors = record { one = f .f1; two = f .f2; three = f .f3; four = f .f4; five = f .f5 } }
+report-back : ReadBack noReport flatReport
+unfolding flatReport
+report-back = record { number = λ f. f .number; record-at = λ f. f .at; values = λ f. record { number = f .request; factor = f .factor; first = f .first; runs = f .runs; factors = record { one = f .f1; two = f .f2; three = f .f3; four = f .f4; five = f .f5 } }; number-is = λ t. refl; record-is = λ t. refl; values-are = λ t. refl }
 
 pub report-loses-nothing : (a b : Answer) → flatReport (toldReport a) ≡ flatReport (toldReport b) → a ≡ b
-unfolding flatReport reportIn
-report-loses-nothing a b is =
-    report-one a b (told-one noReport _ _ (report-numbered a) (report-numbered b) (ap (λ (f : EndakuroReport). f .number) is) (ap (λ (f : EndakuroReport). f .at) is) (ap reportIn is))
+report-loses-nothing = loses-nothing report-back report-one report-numbered
 
 pub run-numbered : (a : Worked) → Numbered (toldRun a)
 run-numbered (worked.Figures figures) = tt
 run-numbered (worked.Refused why) = not-zero why
 
-figuresIn : EndakuroRun → Figures
-figuresIn f =
-    record {
-      indicated = f .indicated;
-      cts = f .cts;
-      cps = f .cps;
-      prover = record { cpl = f .provercpl; factor = f .proverfactor; volume = f .provervolume };
-      meter = record { cpl = f .metercpl; factor = f .meterproduct; volume = f .metervolume };
-      factor = f .factor;
-    }
+run-back : ReadBack noFigures flatRun
+unfolding flatRun
+run-back = record { number = λ f. f .number; record-at = λ f. f .at; values = λ f. record { indicated = f .indicated; cts = f .cts; cps = f .cps; prover = record { cpl = f .provercpl; factor = f .proverfactor; volume = f .provervolume }; meter = record { cpl = f .metercpl; factor = f .meterproduct; volume = f .metervolume }; factor = f .factor }; number-is = λ t. refl; record-is = λ t. refl; values-are = λ t. refl }
 
 pub run-loses-nothing : (a b : Worked) → flatRun (toldRun a) ≡ flatRun (toldRun b) → a ≡ b
-unfolding flatRun figuresIn
-run-loses-nothing a b is =
-    run-one a b (told-one noFigures _ _ (run-numbered a) (run-numbered b) (ap (λ (f : EndakuroRun). f .number) is) (ap (λ (f : EndakuroRun). f .at) is) (ap figuresIn is))
+run-loses-nothing = loses-nothing run-back run-one run-numbered
 
 pub fill-numbered : (a : FillAnswer) → Numbered (toldFill a)
 fill-numbered (filled.Figures figures) = tt
 fill-numbered (filled.Refused why) = not-zero why
 
-fillIn : EndakuroFill → FillFigures
-fillIn f = record { adjusted = f .adjusted; measure = f .measure; prover = f .prover; ccts = f .ccts; drawn = f .drawn }
+fill-back : ReadBack noFill flatFill
+unfolding flatFill
+fill-back = record { number = λ f. f .number; record-at = λ f. f .at; values = λ f. record { adjusted = f .adjusted; measure = f .measure; prover = f .prover; ccts = f .ccts; drawn = f .drawn }; number-is = λ t. refl; record-is = λ t. refl; values-are = λ t. refl }
 
 pub fill-loses-nothing : (a b : FillAnswer) → flatFill (toldFill a) ≡ flatFill (toldFill b) → a ≡ b
-unfolding flatFill fillIn
-fill-loses-nothing a b is =
-    fill-one a b (told-one noFill _ _ (fill-numbered a) (fill-numbered b) (ap (λ (f : EndakuroFill). f .number) is) (ap (λ (f : EndakuroFill). f .at) is) (ap fillIn is))
+fill-loses-nothing = loses-nothing fill-back fill-one fill-numbered
 
 pub passes-numbered : (a : Counted) → Numbered (toldPasses a)
 passes-numbered (counted.Passes count) = tt
@@ -167,76 +134,69 @@ passes-numbered (counted.Refused why) = not-zero why
 -- the answer and the volumes
 pub passes-lose-nothing : (a b : Counted) (v w : List ℕ) → flatPasses (toldPasses a) v ≡ flatPasses (toldPasses b) w → (a ≡ b) × (v ≡ w)
 unfolding flatPasses
-passes-lose-nothing a b v w is =
-    (passes-one a b (told-one 0 _ _ (passes-numbered a) (passes-numbered b) (ap (λ (f : EndakuroPasses). f .number) is) (ap (λ (f : EndakuroPasses). f .at) is) (ap (λ (f : EndakuroPasses). f .count) is)), ap (λ (f : EndakuroPasses). f .volumes) is)
+passes-lose-nothing a b v w is = (
+  passes-one a b (told-one 0 _ _ (passes-numbered a) (passes-numbered b) (ap (λ (f : EndakuroPasses). f .number) is) (ap (λ (f : EndakuroPasses). f .at) is) (ap (λ (f : EndakuroPasses). f .count) is)),
+  ap (λ (f : EndakuroPasses). f .volumes) is,
+)
 
 pub draw-numbered : (a : WaterDraw) → Numbered (toldDraw a)
 draw-numbered (drawn.Drawn base) = tt
 draw-numbered (drawn.Refused why) = not-zero why
 
-baseIn : EndakuroDraw → BaseVolume
-baseIn f = record { base = f .base; barrels = f .barrels; first = f .first }
+draw-back : ReadBack noBase flatDraw
+unfolding flatDraw
+draw-back = record { number = λ f. f .number; record-at = λ f. f .at; values = λ f. record { base = f .base; barrels = f .barrels; first = f .first }; number-is = λ t. refl; record-is = λ t. refl; values-are = λ t. refl }
 
 pub draw-loses-nothing : (a b : WaterDraw) → flatDraw (toldDraw a) ≡ flatDraw (toldDraw b) → a ≡ b
-unfolding flatDraw baseIn
-draw-loses-nothing a b is =
-    draw-one a b (told-one noBase _ _ (draw-numbered a) (draw-numbered b) (ap (λ (f : EndakuroDraw). f .number) is) (ap (λ (f : EndakuroDraw). f .at) is) (ap baseIn is))
+draw-loses-nothing = loses-nothing draw-back draw-one draw-numbered
 
-pub ticket-numbered : (a : Outcome) → Numbered (toldTicket a)
-ticket-numbered (outcome.Worked volumes) = tt
-ticket-numbered (outcome.Refused why) = not-zero why
+pub ticket-numbered : (a : Measured) → Numbered (toldTicket a)
+ticket-numbered (measured.Worked volumes) = tt
+ticket-numbered (measured.Refused why) = not-zero why
 
-volumesOf : EndakuroVolumes → Volumes
-volumesOf f = record { factor = f .factor; gross = f .gross; net = f .net }
+ticket-back : ReadBack noVolumes flatVolumes
+unfolding flatVolumes
+ticket-back = record { number = λ f. f .number; record-at = λ f. f .at; values = λ f. record { factor = f .factor; gross = f .gross; net = f .net }; number-is = λ t. refl; record-is = λ t. refl; values-are = λ t. refl }
 
-pub ticket-loses-nothing : (a b : Outcome) → flatVolumes (toldTicket a) ≡ flatVolumes (toldTicket b) → a ≡ b
-unfolding flatVolumes volumesOf
-ticket-loses-nothing a b is =
-    ticket-one a b (told-one noVolumes _ _ (ticket-numbered a) (ticket-numbered b) (ap (λ (f : EndakuroVolumes). f .number) is) (ap (λ (f : EndakuroVolumes). f .at) is) (ap volumesOf is))
+pub ticket-loses-nothing : (a b : Measured) → flatVolumes (toldTicket a) ≡ flatVolumes (toldTicket b) → a ≡ b
+ticket-loses-nothing = loses-nothing ticket-back ticket-one ticket-numbered
 
 pub live-numbered : (a : Live) → Numbered (toldLive a)
 unfolding toldLive
 live-numbered (live.Whole tenths psi) = tt
 live-numbered (live.Refused why) = not-zero why
 
--- a pressure that is told is not below zero, so that its size is the pressure
-psi-kept : (a : Live) → pos (natAbs (valuesIn noReading (toldLive a) .psi)) ≡ valuesIn noReading (toldLive a) .psi
-unfolding toldLive
-psi-kept (live.Whole tenths psi) = refl
-psi-kept (live.Refused why) = refl
+live-back : ReadBack noReading flatLive
+unfolding flatLive
+live-back = record { number = λ f. f .number; record-at = λ f. f .at; values = λ f. record { tenths = f .tenths; psi = f .psi }; number-is = λ t. refl; record-is = λ t. refl; values-are = λ t. refl }
 
 pub live-loses-nothing : (a b : Live) → flatLive (toldLive a) ≡ flatLive (toldLive b) → a ≡ b
-unfolding flatLive
-live-loses-nothing a b is =
-    let psi = sym (psi-kept a) ∙ ap (λ (f : EndakuroLive). pos (f .psi)) is ∙ psi-kept b in
-    live-one a b (told-one noReading _ _ (live-numbered a) (live-numbered b) (ap (λ (f : EndakuroLive). f .number) is) (ap (λ (f : EndakuroLive). f .at) is) (λ i. record { tenths = is i .tenths; psi = psi i }))
+live-loses-nothing = loses-nothing live-back live-one live-numbered
 
 pub change-numbered : (a : Change) → Numbered (toldChange a)
 change-numbered change.Made = tt
 change-numbered (change.Refused why) = not-zero why
 
-nothing-one : (x y : Unit {0}) → x ≡ y
-nothing-one x y = refl
+change-back : ReadBack tt flatDone
+unfolding flatDone
+change-back = record { number = λ f. f .number; record-at = λ f. f .at; values = λ f. tt; number-is = λ t. refl; record-is = λ t. refl; values-are = λ t. refl }
 
 pub change-loses-nothing : (a b : Change) → flatDone (toldChange a) ≡ flatDone (toldChange b) → a ≡ b
-unfolding flatDone
-change-loses-nothing a b is =
-    change-one a b (told-one tt _ _ (change-numbered a) (change-numbered b) (ap (λ (f : EndakuroDone). f .number) is) (ap (λ (f : EndakuroDone). f .at) is) (nothing-one _ _))
+change-loses-nothing = loses-nothing change-back change-one change-numbered
 
 pub take-numbered : (a : Handout) → Numbered (toldTake a)
 take-numbered (handout.Handed shipper number) = tt
 take-numbered (handout.Refused why) = not-zero why
 
-handedIn : EndakuroTaken → Handed
-handedIn f = record { shipper = f .shipper; number = f .request }
+take-back : ReadBack noHandout flatTaken
+unfolding flatTaken
+take-back = record { number = λ f. f .number; record-at = λ f. f .at; values = λ f. record { shipper = f .shipper; number = f .request }; number-is = λ t. refl; record-is = λ t. refl; values-are = λ t. refl }
 
 pub take-loses-nothing : (a b : Handout) → flatTaken (toldTake a) ≡ flatTaken (toldTake b) → a ≡ b
-unfolding flatTaken handedIn
-take-loses-nothing a b is =
-    handout-one a b (told-one noHandout _ _ (take-numbered a) (take-numbered b) (ap (λ (f : EndakuroTaken). f .number) is) (ap (λ (f : EndakuroTaken). f .at) is) (ap handedIn is))
+take-loses-nothing = loses-nothing take-back handout-one take-numbered
 
 -- start and length in the lent records are the accepted runs
-part-accepted : (t : Told ℕ) (s : List ℕ) → take (partOf t .length) (drop (partOf t .start) s) ≡ acceptedBy t s
+part-accepted : (t : Told ℕ) (s : List ℕ) → take (partOf t .length) (drop (partOf t .start) s) ≡ acceptedBy runSize t s
 part-accepted (done at) s = refl
 part-accepted (refused number at) s = refl
 

@@ -2,17 +2,17 @@
 -- inputs that document 01 lists, each rounded once, halves upward.' For each figure: the exact fraction it comes from, whose numbers are
 -- the rounded figures before it, and that it is that fraction rounded once.
 use mathlib.Core.Path.{_≡_, refl, sym, ap, _∙_, subst}
-use mathlib.Core.Bool.{Bool, true, false, _&&_, cond}
+use mathlib.Core.Bool.{Bool, true, false, cond}
 use mathlib.Core.List.{List, [], _∷_}
 use mathlib.Core.Option.{Option, none, some}
 use Prim.Native.Nat.{ℕ, zero, suc, _+_, _-_, _*_, _^_, _<_, _≤_}
-use native.Mathlib.Nat.{div-zero, one-le-pow, mul-le-mul, mul-pos}
+use native.Mathlib.Nat.{div-zero, one-le-pow, mul-pos}
 use native.Mathlib.Omega.{arith}
 use lib.Dec.{leb, ltb}
 use lib.IntN.{ℤ, pos, natAbs, _+ℤ_}
 use lib.ListN.{length}
 use Rattle.refusals.specs.Told.{done, demand, demandAt, orElse, judged}
-use Rattle.refusals.proofs.Laws.{demand-was, demandAt-was, orElse-fine-first, orElse-fine-next, judged-was, judged-done}
+use Rattle.refusals.proofs.Laws.{demand-was, demandAt-was, orElse-fine-first, orElse-fine-next, judged-was, judged-done, unless-done}
 use Rattle.ranges.specs.Table.{temperatureOk, pressureOk, coefficientOk, kFactorOk, volumeOk, runFactorOk}
 use Rattle.ranges.proofs.Laws.{within-low, within-high}
 use Rattle.exact.specs.Rounding.{roundedDiv, Fraction, _over_, rounded}
@@ -66,7 +66,6 @@ use Rattle.factors.specs.declared.Combined.the-variants.{Value as Held, TooMany
 use Rattle.promises.specs.Proving.{Acceptable, Used}
 use Rattle.promises.specs.WaterDraw as water
 use Rattle.promises.specs.WaterDraw.{InputWithin}
-use Rattle.promises.proofs.Demand2.{unless-done}
 
 -- 'rounded once, halves upward': q is the whole number nearest to n / d, the upper where two are as near, and no other number is
 pub record RoundedOnce (n d q : ℕ) : Type 0 where

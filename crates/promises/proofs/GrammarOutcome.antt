@@ -1,7 +1,8 @@
 -- One outcome (OneOutcome.antt) for the functions of the line program's grammar: the answer, and the bytes left in what was lent to be written.
 use Rattle.numerals.proofs.Numbers.{told-one as number-one}
 use Rattle.numerals.proofs.Signs.{signed-one}
-use Rattle.promises.proofs.OneOutcome.{OneAnswer, OneRead, OneLeft, same}
+use Rattle.promises.specs.Outcome.{OneAnswer, OneRead, OneLeft}
+use Rattle.promises.proofs.OneOutcome.{same}
 use Rattle.words.proofs.word.Reads as words-word
 use Rattle.words.proofs.count_words.Reads as words-count-words
 use Rattle.words.proofs.write_text.Reads as words-write-text

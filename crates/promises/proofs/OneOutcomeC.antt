@@ -36,7 +36,8 @@ use Rattle.api.proofs.books.endakuro_request as request
 use Rattle.api.proofs.books.endakuro_withdraw as withdraw
 use Rattle.api.proofs.books.endakuro_take as take
 use Rattle.api.proofs.books.endakuro_is_sound as is-sound
-use Rattle.promises.proofs.OneOutcome.{OneAnswer, OneLeft, same}
+use Rattle.promises.specs.Outcome.{OneAnswer, OneLeft}
+use Rattle.promises.proofs.OneOutcome.{same}
 
 pub record OneOutcomeC : Type 0 where
   pub cts-one : OneAnswer cts.Post

@@ -5,20 +5,27 @@ use mathlib.Core.List.{List, [], _∷_}
 use Prim.Native.Nat.{ℕ}
 use lib.Dec.{eqb}
 use Rattle.ranges.specs.Within.{within}
+use Rattle.refusals.specs.Table.{Row, plain, starred, rowOf, cases}
 use Rattle.refusals.specs.Told.{Told, done, refused}
+use Rattle.refusals.specs.declared.Refusal.{Refusal}
 
 unfoldable pub isOneOf : ℕ → List ℕ → Bool
 isOneOf number [] = false
 isOneOf number (first ∷ rest) = eqb number first || isOneOf number rest
 
--- 01, 'Numbers given back': those marked (*)
-unfoldable pub starred : List ℕ
-starred = 2 ∷ 5 ∷ 6 ∷ 7 ∷ 8 ∷ []
+-- 01, 'Numbers given back': those marked (*), read from the table
+abbrev pub marked : Row → List ℕ → List ℕ
+marked (plain number) rest = rest
+marked (starred number at) rest = number ∷ rest
+
+unfoldable pub markedOf : List Refusal → List ℕ
+markedOf [] = []
+markedOf (refusal ∷ rest) = marked (rowOf refusal) (markedOf rest)
 
 -- '(*) carries the record, from 1; others carry 0': a starred number carries one of the records that were handed over, which are
 -- `first` to `last`: 1 to their count where records are lent, and 0 to 0 where an entry takes none
 unfoldable pub recordOk : ℕ → ℕ → ℕ → ℕ → Bool
-recordOk first last number at = cond (isOneOf number starred) (within first last at) (eqb at 0)
+recordOk first last number at = cond (isOneOf number (markedOf (cases 0))) (within first last at) (eqb at 0)
 
 -- the number is on the entry's own list, and its record is as the table has it
 unfoldable pub refusalOk : List ℕ → ℕ → ℕ → ℕ → ℕ → Bool

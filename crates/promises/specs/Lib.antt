@@ -1,4 +1,10 @@
+pub mod Arguments
 pub mod Proving
 pub mod WaterDraw
 pub mod Ending
 pub mod Causes
+pub mod Entries
+pub mod Jobs
+pub mod Outcome
+pub mod OneOutcome
+pub mod Figures

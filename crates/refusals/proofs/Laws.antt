@@ -1,42 +1,28 @@
 -- The table loses nothing: a number with its record names one case. And the laws of judging in order.
 use mathlib.Core.Path.{_≡_, refl, sym, ap, _∙_}
 use mathlib.Core.Bool.{Bool, true, false, cond}
+use mathlib.Core.List.{List, [], _∷_}
 use Prim.Native.Nat.{ℕ}
 use native.Mathlib.Omega.{arith}
 use lib.Dec.{eqb}
-use Rattle.refusals.specs.Table.{numberOf, recordOf}
-use Rattle.refusals.specs.Told.{Told, done, refused, Fault, fine, fault, demand, demandAt, orElse, judged}
+use Rattle.refusals.specs.Table.{numberOf, recordOf, cases}
+use Rattle.refusals.specs.Verdict.{faultOf}
+use Rattle.refusals.specs.declared.Verdict.{Verdict}
+use Rattle.refusals.specs.declared.Verdict.the-variants.{Fine, Refused}
+use Rattle.refusals.specs.Told.{Told, done, refused, Fault, fine, fault, demand, demandAt, orElse, unless, judged}
 use Rattle.refusals.specs.declared.Refusal.{Refusal}
 use Rattle.refusals.specs.declared.Refusal.the-variants.{Records, UnnamedByte, ProverSetting, KFactorOrLimit, RecordField, PassRule, IndicatedVolume, RunFactor, NoGroup, TicketField, ClosingBelowOpening, ReadingNotFinite, ReadingRange, ReportBuffer, NotReport, BookNotSound, UnknownShipper, NumberZero, AlreadyWaiting, CeilingReached, CommonsFull, NotWaiting, NothingToTake}
 
--- the case that a number and a record name
+-- the case that a number and a record name: the first of the cases that has the number
+named : ℕ → List Refusal → Refusal
+named number [] = NothingToTake
+named number (refusal ∷ rest) = cond (eqb (numberOf refusal) number) refusal (named number rest)
+
 caseOf : ℕ → ℕ → Refusal
-caseOf n at =
-    cond (eqb n 1) Records
-    (cond (eqb n 2) (UnnamedByte at)
-    (cond (eqb n 3) ProverSetting
-    (cond (eqb n 4) KFactorOrLimit
-    (cond (eqb n 5) (RecordField at)
-    (cond (eqb n 6) (PassRule at)
-    (cond (eqb n 7) (IndicatedVolume at)
-    (cond (eqb n 8) (RunFactor at)
-    (cond (eqb n 9) NoGroup
-    (cond (eqb n 10) TicketField
-    (cond (eqb n 11) ClosingBelowOpening
-    (cond (eqb n 12) ReadingNotFinite
-    (cond (eqb n 13) ReadingRange
-    (cond (eqb n 14) ReportBuffer
-    (cond (eqb n 15) NotReport
-    (cond (eqb n 20) BookNotSound
-    (cond (eqb n 21) UnknownShipper
-    (cond (eqb n 22) NumberZero
-    (cond (eqb n 23) AlreadyWaiting
-    (cond (eqb n 24) CeilingReached
-    (cond (eqb n 25) CommonsFull
-    (cond (eqb n 26) NotWaiting NothingToTake)))))))))))))))))))))
+caseOf number at = named number (cases at)
 
 case-back : (r : Refusal) → caseOf (numberOf r) (recordOf r) ≡ r
-unfolding caseOf
+unfolding caseOf named
 case-back Records = refl
 case-back (UnnamedByte at) = refl
 case-back ProverSetting = refl
@@ -65,6 +51,20 @@ case-back NothingToTake = refl
 pub refusal-one : (r s : Refusal) → numberOf r ≡ numberOf s → recordOf r ≡ recordOf s → r ≡ s
 refusal-one r s p q = sym (case-back r) ∙ (λ i. caseOf (p i) (q i)) ∙ case-back s
 
+-- no refusal has number 0
+pub not-zero : (r : Refusal) → numberOf r ≡ 0 → ⊥
+unfolding caseOf named
+not-zero r is =
+    let last : numberOf r ≡ 27 = ap numberOf (sym (case-back r) ∙ ap (λ (n : ℕ). caseOf n (recordOf r)) is) in
+    omega arith
+
+-- two verdicts with the same fault are the same
+pub verdict-one : (a b : Verdict) → faultOf a ≡ faultOf b → a ≡ b
+verdict-one Fine Fine is = refl
+verdict-one Fine (Refused s) is = cc
+verdict-one (Refused r) Fine is = cc
+verdict-one (Refused r) (Refused s) is = let number : numberOf r ≡ numberOf s = cc in let at : recordOf r ≡ recordOf s = cc in ap Refused (refusal-one r s number at)
+
 -- what is told holds its result, or its number and record, and not both
 pub done-one : {A : Type 0} {x y : A} → _≡_ {A = Told A} (done x) (done y) → x ≡ y
 done-one p = cc
@@ -82,17 +82,17 @@ judged-fine x p = ap (λ (f : Fault). judged f x) p
 pub judged-fault : {A : Type 0} {f : Fault} {n at : ℕ} (x : A) → f ≡ fault n at → judged f x ≡ refused n at
 judged-fault x p = ap (λ (f : Fault). judged f x) p
 
-pub demand-holds : {t : Bool} (n : ℕ) → t ≡ true → demand t n ≡ fine
-demand-holds n p = ap (λ (t : Bool). demand t n) p
-
-pub demand-fails : {t : Bool} (n : ℕ) → t ≡ false → demand t n ≡ fault n 0
-demand-fails n p = ap (λ (t : Bool). demand t n) p
-
 pub demandAt-holds : {t : Bool} (n at : ℕ) → t ≡ true → demandAt t n at ≡ fine
 demandAt-holds n at p = ap (λ (t : Bool). demandAt t n at) p
 
 pub demandAt-fails : {t : Bool} (n at : ℕ) → t ≡ false → demandAt t n at ≡ fault n at
 demandAt-fails n at p = ap (λ (t : Bool). demandAt t n at) p
+
+pub demand-holds : {t : Bool} (n : ℕ) → t ≡ true → demand t n ≡ fine
+demand-holds n = demandAt-holds n 0
+
+pub demand-fails : {t : Bool} (n : ℕ) → t ≡ false → demand t n ≡ fault n 0
+demand-fails n = demandAt-fails n 0
 
 -- the first fault found is the one given
 pub orElse-next : {f : Fault} (g : Fault) → f ≡ fine → orElse f g ≡ g
@@ -126,6 +126,14 @@ judged-was (fault n at) x is = cc
 pub judged-done : {A : Type 0} (f : Fault) (x : A) {y : A} → judged f x ≡ done y → x ≡ y
 judged-done fine x is = done-one is
 judged-done (fault n at) x is = cc
+
+-- what follows no fault, and that a result comes of none
+pub unless-done : {A : Type 0} (f : Fault) (t : Told A) {x : A} → unless f t ≡ done x → (f ≡ fine) × (t ≡ done x)
+unless-done fine t is = (refl, is)
+unless-done (fault number at) t is = let z : _≡_ {A = ℕ} 0 1 = cc in absurd (omega arith)
+
+pub unless-fine : {A : Type 0} {f : Fault} {t u : Told A} → f ≡ fine → t ≡ u → unless f t ≡ u
+unless-fine {A} {f} {t} clear is = ap (λ (g : Fault). unless g t) clear ∙ is
 
 -- a refusal shows the fault
 pub judged-refused : {A : Type 0} (f : Fault) (x : A) {n at : ℕ} → judged f x ≡ refused n at → f ≡ fault n at

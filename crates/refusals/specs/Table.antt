@@ -1,4 +1,5 @@
 -- 01, 'Numbers given back': the table, a line for each of its rows.
+use mathlib.Core.List.{List, [], _∷_}
 use Prim.Native.Nat.{ℕ}
 use Rattle.refusals.specs.declared.GivenBack.{GivenBack}
 use Rattle.refusals.specs.declared.Refusal.{Refusal}
@@ -53,3 +54,10 @@ recordOf refusal = recordIn (rowOf refusal)
 -- what a caller is given back: the number and the record
 abbrev pub givenBack : Refusal → GivenBack
 givenBack refusal = record { number = numberOf refusal; at = recordOf refusal }
+
+-- every case of the table, a starred one with this record
+abbrev pub cases : ℕ → List Refusal
+cases at =
+    Records ∷ UnnamedByte at ∷ ProverSetting ∷ KFactorOrLimit ∷ RecordField at ∷ PassRule at ∷ IndicatedVolume at ∷ RunFactor at
+    ∷ NoGroup ∷ TicketField ∷ ClosingBelowOpening ∷ ReadingNotFinite ∷ ReadingRange ∷ ReportBuffer ∷ NotReport ∷ BookNotSound
+    ∷ UnknownShipper ∷ NumberZero ∷ AlreadyWaiting ∷ CeilingReached ∷ CommonsFull ∷ NotWaiting ∷ NothingToTake ∷ []

@@ -1,0 +1,162 @@
+-- One outcome for each public function of the libraries. Those that change a book in place are in Keeper.antt, the grammar's in
+-- GrammarOutcome.antt, the C face's in OneOutcomeC.antt.
+use Rattle.refusals.proofs.give_back.Reads as refusals-give-back
+use Rattle.refusals.proofs.demand.Reads as refusals-demand
+use Rattle.refusals.proofs.or_else.Reads as refusals-or-else
+use Rattle.ranges.proofs.is_temperature.Reads as ranges-is-temperature
+use Rattle.ranges.proofs.is_draw_prover.Reads as ranges-is-draw-prover
+use Rattle.ranges.proofs.is_draw_measure.Reads as ranges-is-draw-measure
+use Rattle.ranges.proofs.is_pressure.Reads as ranges-is-pressure
+use Rattle.ranges.proofs.is_coefficient.Reads as ranges-is-coefficient
+use Rattle.ranges.proofs.is_modulus.Reads as ranges-is-modulus
+use Rattle.ranges.proofs.is_diameter.Reads as ranges-is-diameter
+use Rattle.ranges.proofs.is_wall.Reads as ranges-is-wall
+use Rattle.ranges.proofs.is_compressibility.Reads as ranges-is-compressibility
+use Rattle.ranges.proofs.is_ctl.Reads as ranges-is-ctl
+use Rattle.ranges.proofs.is_run_factor.Reads as ranges-is-run-factor
+use Rattle.ranges.proofs.is_ctdw.Reads as ranges-is-ctdw
+use Rattle.ranges.proofs.is_volume.Reads as ranges-is-volume
+use Rattle.ranges.proofs.are_pulses.Reads as ranges-are-pulses
+use Rattle.ranges.proofs.is_k_factor.Reads as ranges-is-k-factor
+use Rattle.ranges.proofs.is_limit.Reads as ranges-is-limit
+use Rattle.ranges.proofs.are_runs.Reads as ranges-are-runs
+use Rattle.ranges.proofs.are_passes.Reads as ranges-are-passes
+use Rattle.ranges.proofs.are_fills.Reads as ranges-are-fills
+use Rattle.ranges.proofs.is_certified.Reads as ranges-is-certified
+use Rattle.ranges.proofs.is_scale.Reads as ranges-is-scale
+use Rattle.ranges.proofs.is_reading.Reads as ranges-is-reading
+use Rattle.ranges.proofs.is_meter_factor.Reads as ranges-is-meter-factor
+use Rattle.ranges.proofs.is_sediment.Reads as ranges-is-sediment
+use Rattle.exact.proofs.product.Reads as exact-product
+use Rattle.exact.proofs.sum.Reads as exact-sum
+use Rattle.exact.proofs.is_at_most.Reads as exact-is-at-most
+use Rattle.exact.proofs.round_or_zero.Reads as exact-round-or-zero
+use Rattle.exact.proofs.rounded_quotient.Reads as exact-rounded-quotient
+use Rattle.exact.proofs.rounded_ratio.Reads as exact-rounded-ratio
+use Rattle.exact.proofs.value_or_zero.Reads as exact-value-or-zero
+use Rattle.factors.proofs.coefficient.Reads as factors-coefficient
+use Rattle.factors.proofs.is_metal.Reads as factors-is-metal
+use Rattle.factors.proofs.choose_metal.Reads as factors-choose-metal
+use Rattle.factors.proofs.is_pipe.Reads as factors-is-pipe
+use Rattle.factors.proofs.is_prover.Reads as factors-is-prover
+use Rattle.factors.proofs.is_liquid.Reads as factors-is-liquid
+use Rattle.factors.proofs.cts.Reads as factors-cts
+use Rattle.factors.proofs.cps.Reads as factors-cps
+use Rattle.factors.proofs.cpl.Reads as factors-cpl
+use Rattle.factors.proofs.value_or_zero.Reads as factors-value-or-zero
+use Rattle.factors.proofs.combine.Reads as factors-combine
+use Rattle.factors.proofs.combined_or_zero.Reads as factors-combined-or-zero
+use Rattle.octets.proofs.byte_at.Reads as octets-byte-at
+use Rattle.octets.proofs.word_at.Reads as octets-word-at
+use Rattle.octets.proofs.long_at.Reads as octets-long-at
+use Rattle.octets.proofs.signed_at.Reads as octets-signed-at
+use Rattle.octets.proofs.are_zero.Reads as octets-are-zero
+use Rattle.octets.proofs.word_bytes.Reads as octets-word-bytes
+use Rattle.octets.proofs.long_bytes.Reads as octets-long-bytes
+use Rattle.octets.proofs.write_at.Reads as octets-write-at
+use Rattle.group.proofs.is_group.Reads as group-is-group
+use Rattle.group.proofs.first_group.Reads as group-first-group
+use Rattle.group.proofs.mean.Reads as group-mean
+use Rattle.group.proofs.find_spread.Reads as group-find-spread
+use Rattle.report.proofs.write.Reads as report-write
+use Rattle.report.proofs.read.Reads as report-read
+use Rattle.run.proofs.decode.Reads as run-decode
+use Rattle.run.proofs.is_run.Reads as run-is-run
+use Rattle.run.proofs.work_out.Reads as run-work-out
+use Rattle.run.proofs.show.Reads as run-show
+use Rattle.proving.proofs.prove.Reads as proving-prove
+use Rattle.proving.proofs.accept.Reads as proving-accept
+use Rattle.draw.proofs.fill.Reads as draw-fill
+use Rattle.draw.proofs.passes.Reads as draw-passes
+use Rattle.draw.proofs.draw.Reads as draw-draw
+use Rattle.ticket.proofs.work_out.Reads as ticket-work-out
+use Rattle.live.proofs.convert.Reads as live-convert
+use Rattle.book.proofs.Book.empty.Reads as book-empty
+use Rattle.book.proofs.request.Reads as book-request
+use Rattle.book.proofs.withdraw.Reads as book-withdraw
+use Rattle.book.proofs.take.Reads as book-take
+use Rattle.promises.specs.Arguments.{second, fifth, sixth}
+use Rattle.promises.specs.Outcome.{OneAnswer, OneRead, OneLeft}
+
+pub record OneOutcome : Type 0 where
+  pub refusals-give-back-one : OneAnswer refusals-give-back.Post
+  pub refusals-demand-one : OneAnswer refusals-demand.Post
+  pub refusals-or-else-one : OneAnswer refusals-or-else.Post
+  pub ranges-is-temperature-one : OneAnswer ranges-is-temperature.Post
+  pub ranges-is-draw-prover-one : OneAnswer ranges-is-draw-prover.Post
+  pub ranges-is-draw-measure-one : OneAnswer ranges-is-draw-measure.Post
+  pub ranges-is-pressure-one : OneAnswer ranges-is-pressure.Post
+  pub ranges-is-coefficient-one : OneAnswer ranges-is-coefficient.Post
+  pub ranges-is-modulus-one : OneAnswer ranges-is-modulus.Post
+  pub ranges-is-diameter-one : OneAnswer ranges-is-diameter.Post
+  pub ranges-is-wall-one : OneAnswer ranges-is-wall.Post
+  pub ranges-is-compressibility-one : OneAnswer ranges-is-compressibility.Post
+  pub ranges-is-ctl-one : OneAnswer ranges-is-ctl.Post
+  pub ranges-is-run-factor-one : OneAnswer ranges-is-run-factor.Post
+  pub ranges-is-ctdw-one : OneAnswer ranges-is-ctdw.Post
+  pub ranges-is-volume-one : OneAnswer ranges-is-volume.Post
+  pub ranges-are-pulses-one : OneAnswer ranges-are-pulses.Post
+  pub ranges-is-k-factor-one : OneAnswer ranges-is-k-factor.Post
+  pub ranges-is-limit-one : OneAnswer ranges-is-limit.Post
+  pub ranges-are-runs-one : OneAnswer ranges-are-runs.Post
+  pub ranges-are-passes-one : OneAnswer ranges-are-passes.Post
+  pub ranges-are-fills-one : OneAnswer ranges-are-fills.Post
+  pub ranges-is-certified-one : OneAnswer ranges-is-certified.Post
+  pub ranges-is-scale-one : OneAnswer ranges-is-scale.Post
+  pub ranges-is-reading-one : OneAnswer ranges-is-reading.Post
+  pub ranges-is-meter-factor-one : OneAnswer ranges-is-meter-factor.Post
+  pub ranges-is-sediment-one : OneAnswer ranges-is-sediment.Post
+  pub exact-product-one : OneAnswer exact-product.Post
+  pub exact-sum-one : OneAnswer exact-sum.Post
+  pub exact-is-at-most-one : OneAnswer exact-is-at-most.Post
+  pub exact-round-or-zero-one : OneAnswer exact-round-or-zero.Post
+  pub exact-rounded-quotient-one : OneAnswer exact-rounded-quotient.Post
+  pub exact-rounded-ratio-one : OneAnswer exact-rounded-ratio.Post
+  pub exact-value-or-zero-one : OneAnswer exact-value-or-zero.Post
+  pub factors-coefficient-one : OneAnswer factors-coefficient.Post
+  pub factors-is-metal-one : OneAnswer factors-is-metal.Post
+  pub factors-choose-metal-one : OneAnswer factors-choose-metal.Post
+  pub factors-is-pipe-one : OneAnswer factors-is-pipe.Post
+  pub factors-is-prover-one : OneAnswer factors-is-prover.Post
+  pub factors-is-liquid-one : OneAnswer factors-is-liquid.Post
+  pub factors-cts-one : OneAnswer factors-cts.Post
+  pub factors-cps-one : OneAnswer factors-cps.Post
+  pub factors-cpl-one : OneAnswer factors-cpl.Post
+  pub factors-value-or-zero-one : OneAnswer factors-value-or-zero.Post
+  pub factors-combine-one : OneAnswer factors-combine.Post
+  pub factors-combined-or-zero-one : OneAnswer factors-combined-or-zero.Post
+  pub octets-byte-at-one : OneAnswer octets-byte-at.Post
+  pub octets-word-at-one : OneAnswer octets-word-at.Post
+  pub octets-long-at-one : OneAnswer octets-long-at.Post
+  pub octets-signed-at-one : OneAnswer octets-signed-at.Post
+  pub octets-are-zero-one : OneAnswer octets-are-zero.Post
+  pub octets-word-bytes-one : OneAnswer octets-word-bytes.Post
+  pub octets-long-bytes-one : OneAnswer octets-long-bytes.Post
+  -- the bytes left in `to`
+  pub octets-write-at-one : OneLeft octets-write-at.Post (λ κ x. second x .now)
+  pub group-is-group-one : OneAnswer group-is-group.Post
+  pub group-first-group-one : OneAnswer group-first-group.Post
+  pub group-mean-one : OneAnswer group-mean.Post
+  pub group-find-spread-one : OneAnswer group-find-spread.Post
+  pub report-write-one : OneAnswer report-write.Post
+  -- and the bytes left in its buffer
+  pub report-write-left : OneLeft report-write.Post (λ κ x. fifth x .now)
+  pub report-read-one : OneAnswer report-read.Post
+  pub run-decode-one : OneAnswer run-decode.Post
+  pub run-is-run-one : OneAnswer run-is-run.Post
+  pub run-work-out-one : OneAnswer run-work-out.Post
+  pub run-show-one : OneAnswer run-show.Post
+  pub proving-prove-one : OneAnswer proving-prove.Post
+  -- and the bytes left in its buffer
+  pub proving-prove-left : OneLeft proving-prove.Post (λ κ x. sixth x .now)
+  -- the part handed back, by the bytes in it: of the place that holds them a contract over values can't speak
+  pub proving-accept-one : OneRead proving-accept.Post (λ κ r. r .now)
+  pub draw-fill-one : OneAnswer draw-fill.Post
+  pub draw-passes-one : OneAnswer draw-passes.Post
+  pub draw-draw-one : OneAnswer draw-draw.Post
+  pub ticket-work-out-one : OneAnswer ticket-work-out.Post
+  pub live-convert-one : OneAnswer live-convert.Post
+  pub book-empty-one : OneAnswer book-empty.Post
+  pub book-request-one : OneAnswer book-request.Post
+  pub book-withdraw-one : OneAnswer book-withdraw.Post
+  pub book-take-one : OneAnswer book-take.Post

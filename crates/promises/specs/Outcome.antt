@@ -1,0 +1,19 @@
+-- 01, 'How much a contract says': 'Every public function states its entire outcome for all inputs: what it returns, and the bytes and book
+-- left behind, also when it refuses. That no second outcome satisfies the statement is itself proved'. Of the contracts themselves:
+-- `f.Post κ a r x` is what the function f ensures of the arguments a at entry, the answer r and the arguments x at exit (κ are the
+-- lifetimes of what is lent).
+use mathlib.Core.Path.{_≡_}
+use mathlib.Core.List.{List}
+use Prim.Native.Nat.{ℕ}
+
+-- two outcomes that satisfy a contract at the same arguments have the same answer
+abbrev pub OneAnswer : {K : Type 0} {A R X : K → Type 0} → ((κ : K) → A κ → R κ → X κ → Type 0) → Type 0
+OneAnswer {K} {A} {R} {X} post = (κ : K) (a : A κ) (r q : R κ) (x y : X κ) → post κ a r x → post κ a q y → r ≡ q
+
+-- the same bytes in what they answer with
+abbrev pub OneRead : {K : Type 0} {A R X : K → Type 0} → ((κ : K) → A κ → R κ → X κ → Type 0) → ((κ : K) → R κ → List ℕ) → Type 0
+OneRead {K} {A} {R} {X} post bytes = (κ : K) (a : A κ) (r q : R κ) (x y : X κ) → post κ a r x → post κ a q y → bytes κ r ≡ bytes κ q
+
+-- and the same bytes in what was lent to be written
+abbrev pub OneLeft : {K : Type 0} {A R X : K → Type 0} → ((κ : K) → A κ → R κ → X κ → Type 0) → ((κ : K) → X κ → List ℕ) → Type 0
+OneLeft {K} {A} {R} {X} post bytes = (κ : K) (a : A κ) (r q : R κ) (x y : X κ) → post κ a r x → post κ a q y → bytes κ x ≡ bytes κ y
