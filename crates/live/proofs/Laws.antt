@@ -2,23 +2,22 @@
 use mathlib.Core.Path.{_≡_, refl, sym, ap, _∙_, subst, subst⁻¹}
 use mathlib.Core.Bool.{Bool, true, false, not, true≢false}
 use Prim.Native.Nat.{ℕ, zero, suc, _+_, _-_, _*_, _^_, _≤_, _<_}
-use native.Mathlib.Nat.{mul-le-mul}
+use native.Mathlib.Nat.{mul-le-mul, mul-assoc, one-mul}
 use native.Mathlib.Omega.{arith}
-use lib.Dec.{T, lit<, lit≤}
+use lib.Dec.{T, lit<}
 use lib.IntN.{ℤ, pos, natAbs, _+ℤ_}
 use lib.Ieee.{Float, nan, inf, fin, binary32, ne, isNan, ofBits}
 use lib.Ieee.Compare.{differs-from-itself, nan-differs}
-use lib.Ieee.Exact.{HasValue}
 use lib.Ieee.Scale.{finite}
-use lib.Pow.{pow-pos, pow-mono}
+use lib.Pow.{pow-pos, pow-mono, pow-add}
 use Rattle.exact.specs.Rounding.{roundedDiv}
 use Rattle.live.specs.Exact.{sided}
 use Rattle.live.specs.Rounding.{awayFromZero}
 use Rattle.live.specs.Live.{wholeOf}
 use Rattle.live.proofs.Sides.{add-passing, size-sided}
 use Rattle.live.proofs.Rounding.{away-sided}
-use Rattle.live.proofs.Value.{summed, summed-near, summed-whole, whole-of-value}
-use Rattle.live.proofs.Fields.{fieldOf, digitsOf, belowOf, bare-value, leading-value, field-middle, field-large}
+use Rattle.live.proofs.Value.{summed, summed-scale, summed-near, summed-whole, whole-of-value}
+use Rattle.live.proofs.Fields.{fieldOf, digitsOf, belowOf, led, doubled, value-of-bits}
 
 at-most : (k : ℕ) → k < 65536 → k ≤ 65535
 at-most k h = omega arith
@@ -27,36 +26,54 @@ at-most k h = omega arith
 under-half : (k a p : ℕ) → k < 65536 → a ≤ 16777215 * p → 0 < p → 2 * (k * a) < 2199023255552 * p
 under-half k a p hk ha hp = omega (arith, mul-le-mul {n₂ = 65535} {m₂ = 16777215 * p} (at-most k hk) ha)
 
-small : (b : ℕ) → digitsOf b ≤ 16777215
-small b = omega arith
+led-small : (f t : ℕ) → t < 8388608 → led f t ≤ 16777215
+led-small zero t h = omega arith
+led-small (suc f) t h = omega arith
 
--- below field 110 k·x is under a half
-pub whole-near : (o k b : ℕ) → k < 65536 → fieldOf b < 110 → wholeOf o k (ofBits binary32 b) ≡ pos o
-whole-near o k b hk h = go (fieldOf b) refl h
-  where
-    near : (a : ℕ) → a ≤ 16777215 * 2 ^ 108 → HasValue (ofBits binary32 b) (belowOf b) a (2 ^ 149) → wholeOf o k (ofBits binary32 b) ≡ pos o
-    near a ha v =
-        whole-of-value o k (ofBits binary32 b) (belowOf b) a (pow-pos 149) v
-        ∙ summed-near o (belowOf b) (k * a) (under-half k a (2 ^ 108) hk ha (pow-pos 108))
+led-by-one : (f t : ℕ) → 0 < f → led f t ≡ 8388608 + t
+led-by-one zero t h = absurd (omega arith)
+led-by-one (suc f) t h = refl
 
-    go : (f : ℕ) → fieldOf b ≡ f → f < 110 → wholeOf o k (ofBits binary32 b) ≡ pos o
-    go zero e h = near (digitsOf b * 1) (mul-le-mul {n₂ = 16777215} {m₂ = 2 ^ 108} (small b) (lit≤ tt)) (bare-value b e)
-    go (suc f) e h =
-        near ((8388608 + digitsOf b) * 2 ^ f)
-        (mul-le-mul {n₂ = 16777215} {m₂ = 2 ^ 108} (omega arith) (pow-mono {i = f} {j = 108} (omega arith)))
-        (leading-value b f e (omega arith))
+doubled-once-fewer : (f : ℕ) → 0 < f → f ≡ suc (doubled f)
+doubled-once-fewer zero h = absurd (omega arith)
+doubled-once-fewer (suc f) h = refl
 
--- from field 110 to 149 it is a fraction over 2^(150 - field): the bottom, the sum by its side and size, and its size rounded
-pub whole-by-parts : (o k b : ℕ) (below : Bool) (size : ℕ) {bottom rounded : ℕ} → 110 ≤ fieldOf b → fieldOf b < 150 → bottom ≡ 2 ^ (150 - fieldOf b)
-    → sided below size ≡ pos (o * bottom) +ℤ sided (belowOf b) (k * (8388608 + digitsOf b)) → rounded ≡ roundedDiv size bottom
-    → sided below rounded ≡ wholeOf o k (ofBits binary32 b)
-unfolding summed
-whole-by-parts o k b below size {bottom} {rounded} l h isBottom isSum isRounded =
-    ap (sided below) isRounded
-    ∙ sym (away-sided below size (subst⁻¹ (λ (n : ℕ). 0 < n) isBottom (pow-pos (150 - fieldOf b))))
-    ∙ ap (λ (z : ℤ). awayFromZero z bottom) isSum
-    ∙ ap (λ (n : ℕ). summed (o * n) (belowOf b) (k * (8388608 + digitsOf b)) n) isBottom
-    ∙ sym (whole-of-value o k (ofBits binary32 b) (belowOf b) (8388608 + digitsOf b) (pow-pos (150 - fieldOf b)) (field-middle b (omega arith) h))
+module _ (o k b : ℕ) where
+  -- below field 110 k·x is under a half
+  pub whole-near : k < 65536 → fieldOf b < 110 → wholeOf o k (ofBits binary32 b) ≡ pos o
+  whole-near hk h =
+      whole-of-value o k (ofBits binary32 b) (belowOf b) (led (fieldOf b) (digitsOf b) * 2 ^ doubled (fieldOf b)) (pow-pos 149) (value-of-bits b (omega arith))
+      ∙ summed-near o (belowOf b) _ (under-half k _ (2 ^ 108) hk (mul-le-mul {n₂ = 16777215} {m₂ = 2 ^ 108} (led-small (fieldOf b) (digitsOf b) (omega arith)) (pow-mono {i = doubled (fieldOf b)} {j = 108} (few (fieldOf b) h))) (pow-pos 108))
+    where
+      few : (f : ℕ) → f < 110 → doubled f ≤ 108
+      few zero h = omega arith
+      few (suc f) h = omega arith
+
+  -- at the fraction cut down by c
+  whole-cut : (a d : ℕ) {c : ℕ} → fieldOf b < 255 → 0 < d → 0 < c → led (fieldOf b) (digitsOf b) * 2 ^ doubled (fieldOf b) ≡ a * c → 2 ^ 149 ≡ d * c
+      → wholeOf o k (ofBits binary32 b) ≡ summed (o * d) (belowOf b) (k * a) d
+  whole-cut a d {c} l hd hc top bottom =
+      whole-of-value o k (ofBits binary32 b) (belowOf b) (led (fieldOf b) (digitsOf b) * 2 ^ doubled (fieldOf b)) (pow-pos 149) (value-of-bits b l)
+      ∙ (λ i. summed ((ap (λ (n : ℕ). o * n) bottom ∙ sym (mul-assoc o d c)) i) (belowOf b) ((ap (λ (n : ℕ). k * n) top ∙ sym (mul-assoc k a c)) i) (bottom i))
+      ∙ summed-scale (o * d) (belowOf b) (k * a) hd hc
+
+  -- from field 110 to 149 it is a fraction over 2^(150 - field): the bottom, the sum by its side and size, and its size rounded
+  pub whole-by-parts : (below : Bool) (size : ℕ) {bottom rounded : ℕ} → 110 ≤ fieldOf b → fieldOf b < 150 → bottom ≡ 2 ^ (150 - fieldOf b)
+      → sided below size ≡ pos (o * bottom) +ℤ sided (belowOf b) (k * (8388608 + digitsOf b)) → rounded ≡ roundedDiv size bottom
+      → sided below rounded ≡ wholeOf o k (ofBits binary32 b)
+  unfolding summed
+  whole-by-parts below size {bottom} {rounded} l h isBottom isSum isRounded =
+      ap (sided below) isRounded
+      ∙ sym (away-sided below size (subst⁻¹ (λ (n : ℕ). 0 < n) isBottom (pow-pos (150 - fieldOf b))))
+      ∙ ap (λ (z : ℤ). awayFromZero z bottom) isSum
+      ∙ ap (λ (n : ℕ). summed (o * n) (belowOf b) (k * (8388608 + digitsOf b)) n) isBottom
+      ∙ sym
+      (whole-cut (8388608 + digitsOf b) (2 ^ (150 - fieldOf b)) (omega arith) (pow-pos (150 - fieldOf b)) (pow-pos (doubled (fieldOf b)))
+      (ap (λ (n : ℕ). n * 2 ^ doubled (fieldOf b)) (led-by-one (fieldOf b) (digitsOf b) (omega arith)))
+      (ap (λ (n : ℕ). 2 ^ n) (parts (fieldOf b) (doubled-once-fewer (fieldOf b) (omega arith)) h) ∙ pow-add 2 (150 - fieldOf b) (doubled (fieldOf b))))
+    where
+      parts : (f : ℕ) {e : ℕ} → f ≡ suc e → f < 150 → 149 ≡ 150 - f + e
+      parts f is h = omega arith
 
 -- its products are small
 pub product-small : {a b : ℕ} → a < 65536 → b ≤ 1099511627776 → a * b < 2 ^ 63
@@ -69,9 +86,15 @@ far o b true ho l = rw (summed-whole (o * 1) true b, add-passing (o * 1) b (omeg
 
 pub whole-far : (o k b : ℕ) → o < 65536 → 0 < k → 150 ≤ fieldOf b → fieldOf b < 255 → 32767 ≤ natAbs (wholeOf o k (ofBits binary32 b))
 whole-far o k b ho hk l h =
-    let a = (8388608 + digitsOf b) * 2 ^ (fieldOf b - 150) in
-    subst⁻¹ (λ (z : ℤ). 32767 ≤ natAbs z) (whole-of-value o k (ofBits binary32 b) (belowOf b) a (lit< tt) (field-large b l h))
-    (far o (k * a) (belowOf b) ho (mul-le-mul {n₁ = 1} {m₁ = 8388608} hk (mul-le-mul {n₁ = 8388608} {m₁ = 1} (omega arith) (pow-pos (fieldOf b - 150)))))
+    subst⁻¹ (λ (z : ℤ). 32767 ≤ natAbs z)
+    (whole-cut o k b ((8388608 + digitsOf b) * 2 ^ (fieldOf b - 150)) 1 h (lit< tt) (pow-pos 149)
+    ((λ i. led-by-one (fieldOf b) (digitsOf b) (omega arith) i * (ap (λ (n : ℕ). 2 ^ n) (parts (fieldOf b) (doubled-once-fewer (fieldOf b) (omega arith)) l) ∙ pow-add 2 (fieldOf b - 150) 149) i)
+    ∙ sym (mul-assoc (8388608 + digitsOf b) (2 ^ (fieldOf b - 150)) (2 ^ 149)))
+    (sym (one-mul (2 ^ 149))))
+    (far o (k * ((8388608 + digitsOf b) * 2 ^ (fieldOf b - 150))) (belowOf b) ho (mul-le-mul {n₁ = 1} {m₁ = 8388608} hk (mul-le-mul {n₁ = 8388608} {m₁ = 1} (omega arith) (pow-pos (fieldOf b - 150)))))
+  where
+    parts : (f : ℕ) {e : ℕ} → f ≡ suc e → 150 ≤ f → e ≡ f - 150 + 149
+    parts f is l = omega arith
 
 -- a NaN differs from itself, and nothing else does
 pub differs-not-finite : (x : Float) → ne x x ≡ true → finite x ≡ false

@@ -2,16 +2,15 @@
 use mathlib.Core.Path.{_≡_, refl, sym, ap, _∙_}
 use mathlib.Core.Bool.{Bool, true, false}
 use mathlib.Core.Logic.{inl, inr}
-use Prim.Native.Nat.{ℕ, zero, suc, _*_, _≤_, _<_}
-use native.Mathlib.Nat.{suc-mul, lt-of-not-le, eq-or-lt-of-le}
-use native.Mathlib.Decide.{decLe}
+use Prim.Native.Nat.{ℕ, zero, suc, _+_, _*_, _≤_, _<_}
+use native.Mathlib.Nat.{suc-mul, eq-or-lt-of-le}
 use native.Mathlib.Omega.{arith}
 use lib.IntN.{ℤ, pos, negsuc, negℤ, natAbs, _+ℤ_, _-ℤ_, _*ℤ_, negℤ-negℤ}
 use Rattle.exact.specs.Rounding.{roundedDiv}
 use Rattle.exact.proofs.Rounding.{nearest, nearest-only}
 use Rattle.live.specs.Exact.{sided}
 use Rattle.live.specs.Rounding.{awayFromZero}
-use Rattle.live.proofs.Sides.{size-opposite, apart-opposite, apart-reaching, apart-passing}
+use Rattle.live.proofs.Sides.{size-opposite, apart-opposite, apart}
 
 -- a number that is whole stays as it is
 over-one : (n : ℕ) → roundedDiv n 1 ≡ n
@@ -48,30 +47,15 @@ opposite n z d r =
 -- above zero
 module _ (n d : ℕ) (h : 0 < d) where
   above-nearest : Nearest (pos n) d (pos (roundedDiv n d))
-  above-nearest = go (decLe (roundedDiv n d * d) n)
-    where
-      go : Dec (roundedDiv n d * d ≤ n) → Nearest (pos n) d (pos (roundedDiv n d))
-      go (yes r) =
-          let e = apart-reaching n (roundedDiv n d * d) r in
-          record { near = omega (arith, e, nearest n h .high); half = λ f. absurd (omega (arith, e, f, nearest n h .high)) }
-      go (no r) =
-          let e = apart-passing n (roundedDiv n d * d) (lt-of-not-le r) in
-          record { near = omega (arith, e, lt-of-not-le r, nearest n h .low); half = λ f. lt-of-not-le r }
+  above-nearest =
+      let e = apart n (roundedDiv n d * d) in
+      record { near = omega (arith, e, nearest n h .low, nearest n h .high); half = λ f. omega (arith, e, f, nearest n h .high) }
 
   above-only : (z : ℤ) → Nearest (pos n) d z → z ≡ pos (roundedDiv n d)
-  above-only (pos q) r = ap pos (sym (go (decLe (q * d) n)))
-    where
-      go : Dec (q * d ≤ n) → roundedDiv n d ≡ q
-      go (yes l) =
-          let e = apart-reaching n (q * d) l in
-          elim (eq-or-lt-of-le (r .near)) [
-            | inl f ↦ absurd (omega (arith, r .half f))
-            | inr f ↦ nearest-only (record { low = omega arith; high = omega (arith, e, f) })
-          ]
-      go (no l) =
-          let e = apart-passing n (q * d) (lt-of-not-le l) in
-          let m = r .near in
-          nearest-only (record { low = omega (arith, e, m); high = omega (arith, lt-of-not-le l) })
+  above-only (pos q) r =
+      let e = apart n (q * d) in
+      let high : 2 * n < 2 * (q * d) + d = elim (eq-or-lt-of-le (r .near)) [ inl f ↦ omega (arith, r .half f) | inr f ↦ omega (arith, e, f) ] in
+      ap pos (sym (nearest-only (record { low = omega (arith, e, r .near); high = high })))
   above-only (negsuc q) r =
       let e = ap (λ (y : ℤ). natAbs (pos n +ℤ y)) (negℤ-negℤ (pos (suc q * d))) in
       absurd (omega (arith, e, r .near, suc-mul q d))

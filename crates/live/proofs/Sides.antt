@@ -1,8 +1,10 @@
 -- Laws of whole numbers by their side of zero and their size.
 use mathlib.Core.Path.{_≡_, refl, sym, ap, _∙_}
 use mathlib.Core.Bool.{Bool, true, false}
+use mathlib.Core.Logic.{by-cases}
 use Prim.Native.Nat.{ℕ, zero, suc, _+_, _-_, _*_, _≤_, _<_}
-use native.Mathlib.Nat.{mul-zero, zero-mul}
+use native.Mathlib.Nat.{mul-zero, zero-mul, lt-of-not-le}
+use native.Mathlib.Decide.{decLe}
 use native.Mathlib.Omega.{arith}
 use borrow.Author.Tests.{lt-ltb, le-ltb}
 use lib.IntN.{ℤ, pos, negsuc, negℤ, natAbs, _+ℤ_, _-ℤ_, _*ℤ_, negℤ-negℤ, negℤ-+ℤ}
@@ -18,10 +20,7 @@ times-sided k false n = refl
 times-sided k true zero = rw mul-zero
 times-sided k true (suc n) = refl
 
--- a + b is on zero's upper side; so is a - b for a b that is not above a, and else it is b - a below
-pub add-above : (a b : ℕ) → pos a +ℤ sided false b ≡ sided false (a + b)
-add-above a b = refl
-
+-- a - b is on zero's upper side for a b that is not above a, and else it is b - a below
 pub add-reaching : (a b : ℕ) → b ≤ a → pos a +ℤ sided true b ≡ sided false (a - b)
 add-reaching a zero h = ap pos (omega arith)
 add-reaching a (suc b) h = rw (le-ltb a (suc b) h)
@@ -39,7 +38,7 @@ size-opposite (pos zero) = refl
 size-opposite (pos (suc n)) = refl
 size-opposite (negsuc n) = refl
 
-times-opposite : (z : ℤ) (d : ℕ) → negℤ z *ℤ pos d ≡ negℤ (z *ℤ pos d)
+pub times-opposite : (z : ℤ) (d : ℕ) → negℤ z *ℤ pos d ≡ negℤ (z *ℤ pos d)
 times-opposite (pos zero) d = rw zero-mul
 times-opposite (pos (suc n)) d = refl
 times-opposite (negsuc n) d = sym (negℤ-negℤ (pos (suc n * d)))
@@ -51,8 +50,8 @@ apart-opposite n z d =
     ∙ size-opposite (n -ℤ z *ℤ pos d)
 
 -- how far two numbers are apart
-pub apart-reaching : (a b : ℕ) → b ≤ a → natAbs (pos a -ℤ pos b) ≡ a - b
-apart-reaching a b h = ap natAbs (add-reaching a b h)
-
-pub apart-passing : (a b : ℕ) → a < b → natAbs (pos a -ℤ pos b) ≡ b - a
-apart-passing a b h = ap natAbs (add-passing a b h) ∙ size-sided true (b - a)
+pub apart : (a b : ℕ) → natAbs (pos a -ℤ pos b) ≡ a - b + (b - a)
+apart a b =
+    by-cases (decLe b a)
+    (λ r. ap natAbs (add-reaching a b r) ∙ omega arith)
+    (λ r. ap natAbs (add-passing a b (lt-of-not-le r)) ∙ size-sided true (b - a) ∙ omega (arith, lt-of-not-le r))

@@ -2,22 +2,22 @@
 -- a number so near to zero that o is left, and whole numbers, which need no rounding.
 use mathlib.Core.Path.{_≡_, sym, ap, _∙_}
 use mathlib.Core.Bool.{Bool, true, false, true≢false}
-use Prim.Native.Nat.{ℕ, zero, suc, _+_, _-_, _*_, _≤_, _<_}
-use native.Mathlib.Nat.{mul-comm, mul-assoc, mul-right-comm, add-mul, mul-sub, mul-pos, mul-le-mul-right, mul-lt-mul-of-pos-right, suc-mul, lt-of-not-le}
+use mathlib.Core.Logic.{by-cases}
+use Prim.Native.Nat.{ℕ, suc, _+_, _-_, _*_, _<_}
+use native.Mathlib.Nat.{mul-comm, mul-assoc, mul-right-comm, add-mul, mul-sub, mul-pos, mul-le-mul-right, mul-lt-mul-of-pos-right, lt-of-not-le}
 use native.Mathlib.Decide.{decLe}
 use native.Mathlib.Omega.{arith}
 use lib.Dec.{lit<}
-use lib.IntN.{ℤ, pos, _+ℤ_, _*ℤ_}
+use lib.IntN.{ℤ, pos, negsuc, natAbs, _+ℤ_, _-ℤ_, _*ℤ_, +ℤ-comm, +ℤ-negℤ-cancel}
 use lib.Ieee.{Float, nan, inf, fin, up, down}
 use lib.Ieee.Exact.{HasValue}
 use lib.Ieee.Scale.{finite}
 use lib.Ieee.Fits.{down-pos}
-use Rattle.exact.specs.Rounding.{roundedDiv}
-use Rattle.exact.proofs.Rounding.{nearest-only, cancelled}
+use Rattle.exact.proofs.Rounding.{cancelled}
 use Rattle.live.specs.Exact.{sided, numerator, denominator}
 use Rattle.live.specs.Rounding.{awayFromZero}
 use Rattle.live.specs.Live.{wholeOf}
-use Rattle.live.proofs.Sides.{times-sided, add-reaching, add-passing}
+use Rattle.live.proofs.Sides.{size-sided, times-sided, times-opposite, add-reaching, add-passing}
 use Rattle.live.proofs.Rounding.{Nearest, away-sided, away-whole, away-nearest, away-only}
 
 sub-mul : (a b c : ℕ) → (a - b) * c ≡ a * c - b * c
@@ -27,37 +27,23 @@ sub-mul a b c = mul-comm (a - b) c ∙ mul-sub c a b ∙ (λ i. mul-comm c a i -
 unfoldable pub summed : ℕ → Bool → ℕ → ℕ → ℤ
 summed a s b d = awayFromZero (pos a +ℤ sided s b) d
 
--- the sum by its side and size, rounded: it stays above zero, comes down to it, or passes it
-module _ (a b : ℕ) {d : ℕ} (h : 0 < d) where
-  pub summed-above : summed a false b d ≡ sided false (roundedDiv (a + b) d)
-  unfolding summed
-  summed-above = away-sided false (a + b) h
+-- c times the sum, over c times the bottom, is the same fraction
+sum-times : (a : ℕ) (s : Bool) (b c : ℕ) → 0 < c → (pos a +ℤ sided s b) *ℤ pos c ≡ pos (a * c) +ℤ sided s (b * c)
+sum-times a false b c h = ap pos (add-mul a b c)
+sum-times a true b c h =
+    by-cases (decLe b a)
+    (λ r. ap (λ (z : ℤ). z *ℤ pos c) (add-reaching a b r) ∙ ap pos (sub-mul a b c) ∙ sym (add-reaching (a * c) (b * c) (mul-le-mul-right c r)))
+    (λ r. ap (λ (z : ℤ). z *ℤ pos c) (add-passing a b (lt-of-not-le r)) ∙ times-opposite (pos (b - a)) c ∙ ap (sided true) (sub-mul b a c)
+    ∙ sym (add-passing (a * c) (b * c) (mul-lt-mul-of-pos-right (lt-of-not-le r) h)))
 
-  pub summed-reaching : b ≤ a → summed a true b d ≡ sided false (roundedDiv (a - b) d)
-  unfolding summed
-  summed-reaching r = rw (add-reaching a b r) (away-sided false (a - b) h)
+away-scale : (z : ℤ) {d c : ℕ} → 0 < d → 0 < c → awayFromZero (z *ℤ pos c) (d * c) ≡ awayFromZero z d
+unfolding awayFromZero
+away-scale (pos n) {d} hd hc = ap pos (cancelled n d hc)
+away-scale (negsuc n) {d} {c} hd hc = away-sided true (suc n * c) (mul-pos hd hc) ∙ ap (sided true) (cancelled (suc n) d hc)
 
-  pub summed-passing : a < b → summed a true b d ≡ sided true (roundedDiv (b - a) d)
-  unfolding summed
-  summed-passing r = rw (add-passing a b r) (away-sided true (b - a) h)
-
--- the same sum over a larger bottom
 pub summed-scale : (a : ℕ) (s : Bool) (b : ℕ) {d c : ℕ} → 0 < d → 0 < c → summed (a * c) s (b * c) (d * c) ≡ summed a s b d
-summed-scale a false b {d} {c} hd hc =
-    summed-above (a * c) (b * c) (mul-pos hd hc)
-    ∙ ap pos (ap (λ (n : ℕ). roundedDiv n (d * c)) (sym (add-mul a b c)) ∙ cancelled (a + b) d hc)
-    ∙ sym (summed-above a b hd)
-summed-scale a true b {d} {c} hd hc = go (decLe b a)
-  where
-    go : Dec (b ≤ a) → summed (a * c) true (b * c) (d * c) ≡ summed a true b d
-    go (yes r) =
-        summed-reaching (a * c) (b * c) (mul-pos hd hc) (mul-le-mul-right c r)
-        ∙ ap (sided false) (ap (λ (n : ℕ). roundedDiv n (d * c)) (sym (sub-mul a b c)) ∙ cancelled (a - b) d hc)
-        ∙ sym (summed-reaching a b hd r)
-    go (no r) =
-        summed-passing (a * c) (b * c) (mul-pos hd hc) (mul-lt-mul-of-pos-right (lt-of-not-le r) hc)
-        ∙ ap (sided true) (ap (λ (n : ℕ). roundedDiv n (d * c)) (sym (sub-mul b a c)) ∙ cancelled (b - a) d hc)
-        ∙ sym (summed-passing a b hd (lt-of-not-le r))
+unfolding summed
+summed-scale a s b {d} {c} hd hc = ap (λ (z : ℤ). awayFromZero z (d * c)) (sym (sum-times a s b c hc)) ∙ away-scale (pos a +ℤ sided s b) hd hc
 
 -- o + k·x at any fraction that is x
 pub whole-of-value : (o k : ℕ) (x : Float) (s : Bool) (a : ℕ) {c : ℕ} → 0 < c → HasValue x s a c → wholeOf o k x ≡ summed (o * c) s (k * a) c
@@ -101,21 +87,10 @@ whole-of-none o k (fin s m e) h = absurd (true≢false h)
 
 -- b / d is under a half: what is left is o
 pub summed-near : (o : ℕ) (s : Bool) (b : ℕ) {d : ℕ} → 2 * b < d → summed (o * d) s b d ≡ pos o
-summed-near o false b {d} h =
-    summed-above (o * d) b (omega arith) ∙ ap pos (nearest-only (record { low = omega arith; high = omega arith }))
-summed-near o true b {d} h = go o (decLe b (o * d))
-  where
-    go : (o : ℕ) → Dec (b ≤ o * d) → summed (o * d) true b d ≡ pos o
-    go o (yes r) =
-        summed-reaching (o * d) b (omega arith) r
-        ∙ ap pos (nearest-only (record { low = omega arith; high = omega arith }))
-    go zero (no r) =
-        let l : 0 * d < b = lt-of-not-le r in
-        summed-passing (0 * d) b (omega arith) l
-        ∙ ap (sided true) (nearest-only {q = 0} (record { low = omega arith; high = omega arith }))
-    go (suc o) (no r) =
-        let l : suc o * d < b = lt-of-not-le r in
-        absurd (omega (arith, suc-mul o d))
+unfolding summed
+summed-near o s b {d} h =
+    let apart : natAbs (pos (o * d) +ℤ sided s b -ℤ pos (o * d)) ≡ b = ap natAbs (ap (λ (z : ℤ). z -ℤ pos (o * d)) (+ℤ-comm (pos (o * d)) (sided s b)) ∙ +ℤ-negℤ-cancel (sided s b) (pos (o * d))) ∙ size-sided s b in
+    sym (away-only (pos (o * d) +ℤ sided s b) d (pos o) (omega arith) (record { near = omega (arith, apart); half = λ e. absurd (omega (arith, apart, e)) }))
 
 -- a whole number needs no rounding
 pub summed-whole : (a : ℕ) (s : Bool) (b : ℕ) → summed a s b 1 ≡ pos a +ℤ sided s b

@@ -52,16 +52,16 @@ unfolding psiOk pressureOk
 psi-unsigned (pos n) h = (tt, within-high 0 1500 n h)
 psi-unsigned (negsuc n) h = absurd (true≢false (sym h))
 
-module _ (inRange : ℤ → Bool) (reach : (z : ℤ) → 32767 ≤ natAbs z → inRange z ≡ false) (z : ℤ) where
-  pub judged-by-word : inRange (inWord z) ≡ inRange z
+module _ (inRange : ℤ → Bool) (reach : (z : ℤ) → 32767 ≤ natAbs z → inRange z ≡ false) {w z : ℤ} (is : w ≡ inWord z) where
+  pub judged-by-word : inRange w ≡ inRange z
   judged-by-word =
       by-cases (decLe 32767 (natAbs z))
-      (λ far. ap inRange (word-passed z far) ∙ reach (pos 32767) (omega arith) ∙ sym (reach z far))
-      (λ near. ap inRange (word-holds z (lt-of-not-le near)))
+      (λ far. ap inRange (is ∙ word-passed z far) ∙ reach (pos 32767) (omega arith) ∙ sym (reach z far))
+      (λ near. ap inRange (is ∙ word-holds z (lt-of-not-le near)))
 
-  pub word-in-range : inRange z ≡ true → inWord z ≡ z
+  pub word-in-range : inRange z ≡ true → w ≡ z
   word-in-range ok =
-      by-cases (decLe 32767 (natAbs z)) (λ far. absurd (true≢false (sym ok ∙ reach z far))) (λ near. word-holds z (lt-of-not-le near))
+      by-cases (decLe 32767 (natAbs z)) (λ far. absurd (true≢false (sym ok ∙ reach z far))) (λ near. is ∙ word-holds z (lt-of-not-le near))
 
 -- a size of 15 bits as the machine's signed number, on either side of zero
 pub machine-above : (n : ℕ) → n ≤ 32767 → toZ w16 n ≡ sided false n

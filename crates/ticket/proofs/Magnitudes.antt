@@ -40,12 +40,11 @@ in-range t ok =
       sediment = within-high 0 100000 (t .sediment) (both-second (liquidOk (t .liquid)) _ after-ctl);
     }
 
-module _ (t : Ticket) where
-  -- the product of the three factors is divided by the units that two of them bring
-  pub factor-by-words : roundedDiv (t .mf * t .ctl * cplAt 4 (t .liquid)) 100000000 ≡ factor t
-  unfolding factor combinedAt combined rounded
-  factor-by-words =
-      sym (cancelled (t .mf * (t .ctl * (cplAt 4 (t .liquid) * 1))) 100000000 {c = 10000} (omega arith) ∙ ap (λ (n : ℕ). roundedDiv n 100000000) (simp (mul-one, mul-assoc)))
+-- the product of the three factors is divided by the units that two of them bring
+pub factor-by-words : (t : Ticket) → roundedDiv (t .mf * t .ctl * cplAt 4 (t .liquid)) 100000000 ≡ factor t
+unfolding factor combinedAt combined rounded
+factor-by-words t =
+    sym (cancelled (t .mf * (t .ctl * (cplAt 4 (t .liquid) * 1))) 100000000 {c = 10000} (omega arith) ∙ ap (λ (n : ℕ). roundedDiv n 100000000) (simp (mul-one, mul-assoc)))
 
 module _ {t : Ticket} (b : Bounds t) where
   pub supplied-small : t .mf * t .ctl ≤ 180000000

@@ -13,6 +13,7 @@ use Rattle.refusals.specs.Told.{Fault, fine, done, demand, orElse}
 use Rattle.refusals.specs.Verdict.{faultOf}
 use Rattle.refusals.proofs.Laws.{judged-fine, judged-fault, orElse-fine-first, orElse-fine-next}
 use Rattle.live.specs.Live.{wholeOf, psiOk, told}
+use Rattle.live.specs.Word.{inWord}
 use Rattle.live.proofs.Answers.{singleFault, was-in-range, live-judged}
 use Rattle.live.proofs.Words.{temperature-reach, psi-reach, judged-by-word, word-in-range, psi-unsigned}
 use Rattle.live.proofs.convert.Statement.{statement}
@@ -34,20 +35,20 @@ first c = singleFault temperatureOk (wholeOf 0 10 (temperature c)) (temperature 
 abbrev next : tie.After-round2 → Fault
 next c = singleFault psiOk (wholeOf 0 1 (pressure c)) (pressure c)
 
--- what the machine reads back of a signed number is that number
-tenths-back : (c : tie.After-round2) → toZ w16 (ofZ w16 (c .before .round .result)) ≡ c .before .round .result
-tenths-back c = search needs
+-- what the machine reads back of each whole number is that number
+tenths-held : (c : tie.After-round2) → toZ w16 (ofZ w16 (c .before .round .result)) ≡ inWord (wholeOf 0 10 (temperature c))
+tenths-held c = let back : toZ w16 (ofZ w16 (c .before .round .result)) ≡ c .before .round .result = search needs in back ∙ c .before .round .ensures
 
-psi-back : (c : tie.After-round2) → toZ w16 (ofZ w16 (c .round2 .result)) ≡ c .round2 .result
-psi-back c = search needs
+psi-held : (c : tie.After-round2) → toZ w16 (ofZ w16 (c .round2 .result)) ≡ inWord (wholeOf 0 1 (pressure c))
+psi-held c = let back : toZ w16 (ofZ w16 (c .round2 .result)) ≡ c .round2 .result = search needs in back ∙ c .round2 .ensures
 
 judged-by : (c : tie.After-or-else) → faultOf (c .or-else .result) ≡ orElse (first (rounds c)) (next (rounds c))
 judged-by c =
     let psi = c .before .before in
     let tenths = psi .before .before in
     let r = rounds c in
-    let warm : tenths .is-temperature .result ≡ temperatureOk (wholeOf 0 10 (temperature r)) = tenths .is-temperature .ensures ∙ ap temperatureOk (tenths-back r ∙ r .before .round .ensures) ∙ judged-by-word temperatureOk temperature-reach (wholeOf 0 10 (temperature r)) in
-    let pressed : psi .is-psi .result ≡ psiOk (wholeOf 0 1 (pressure r)) = psi .is-psi .ensures ∙ ap psiOk (psi-back r ∙ r .round2 .ensures) ∙ judged-by-word psiOk psi-reach (wholeOf 0 1 (pressure r)) in
+    let warm = tenths .is-temperature .ensures ∙ judged-by-word temperatureOk temperature-reach (tenths-held r) in
+    let pressed = psi .is-psi .ensures ∙ judged-by-word psiOk psi-reach (psi-held r) in
     c .or-else .ensures
     ∙ (λ i. orElse
     ((psi .before .judge .ensures ∙ ap (λ (ok : Bool). orElse (demand (finite (temperature r)) 12) (demand ok 13)) warm) i)
@@ -56,20 +57,17 @@ judged-by c =
 in-order : (c : tie.After-enum-told) → orElse (first (rounds (c .before .before))) (next (rounds (c .before .before))) ≡ fine
 in-order c = sym (judged-by (c .before .before)) ∙ ap faultOf (c .enum-told .given .1)
 
-tenths-is : (c : tie.After-enum-told) → rounds (c .before .before) .before .round .result ≡ wholeOf 0 10 (temperature (rounds (c .before .before)))
-tenths-is c =
-    let r = rounds (c .before .before) in
-    r .before .round .ensures ∙ word-in-range temperatureOk temperature-reach _ (was-in-range temperatureOk (wholeOf 0 10 (temperature r)) (temperature r) (orElse-fine-first (first r) (next r) (in-order c)))
+abbrev found : tie.After-enum-told → tie.After-round2
+found c = rounds (c .before .before)
 
-psi-ok : (c : tie.After-enum-told) → psiOk (wholeOf 0 1 (pressure (rounds (c .before .before)))) ≡ true
-psi-ok c =
-    let r = rounds (c .before .before) in
-    was-in-range psiOk (wholeOf 0 1 (pressure r)) (pressure r) (orElse-fine-next (first r) (next r) (in-order c))
+tenths-is : (c : tie.After-enum-told) → toZ w16 (ofZ w16 (found c .before .round .result)) ≡ wholeOf 0 10 (temperature (found c))
+tenths-is c = word-in-range temperatureOk temperature-reach (tenths-held (found c)) (was-in-range temperatureOk (wholeOf 0 10 (temperature (found c))) (temperature (found c)) (orElse-fine-first (first (found c)) (next (found c)) (in-order c)))
 
-psi-is : (c : tie.After-enum-told) → toZ w16 (ofZ w16 (rounds (c .before .before) .round2 .result)) ≡ wholeOf 0 1 (pressure (rounds (c .before .before)))
-psi-is c =
-    let r = rounds (c .before .before) in
-    psi-back r ∙ r .round2 .ensures ∙ word-in-range psiOk psi-reach _ (psi-ok c)
+psi-ok : (c : tie.After-enum-told) → psiOk (wholeOf 0 1 (pressure (found c))) ≡ true
+psi-ok c = was-in-range psiOk (wholeOf 0 1 (pressure (found c))) (pressure (found c)) (orElse-fine-next (first (found c)) (next (found c)) (in-order c))
+
+psi-is : (c : tie.After-enum-told) → toZ w16 (ofZ w16 (found c .round2 .result)) ≡ wholeOf 0 1 (pressure (found c))
+psi-is c = word-in-range psiOk psi-reach (psi-held (found c)) (psi-ok c)
 
 cast-t10 : tie.Need-cast-t10
 cast-t10 c =
@@ -79,9 +77,8 @@ cast-t10 c =
 returns : tie.Need-returns
 unfolding told
 returns c =
-    let r = rounds (c .before .before) in
-    (λ i. done (record { tenths = (tenths-back r ∙ tenths-is c) i; psi = natAbs (psi-is c i) }))
-    ∙ sym (live-judged (temperature r) (pressure r) ∙ judged-fine _ (in-order c))
+    (λ i. done (record { tenths = tenths-is c i; psi = natAbs (psi-is c i) }))
+    ∙ sym (live-judged (temperature (found c)) (pressure (found c)) ∙ judged-fine _ (in-order c))
 
 returns-2 : tie.Need-returns-2
 unfolding told

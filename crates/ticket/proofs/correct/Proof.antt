@@ -36,16 +36,11 @@ factor-is c =
 
 gross-is : (c : tie.After-round2) → c .round2 .result ≡ gross (ticket (c .before .before))
 unfolding gross indicated
-gross-is c =
-    let t = ticket (c .before .before) in
-    c .round2 .ensures ∙ ap (λ (n : ℕ). roundedDiv ((t .closing - t .opening) * n) 10000) (factor-is (c .before))
+gross-is c = c .round2 .ensures ∙ ap (λ (n : ℕ). roundedDiv (indicated (ticket (c .before .before)) * n) 10000) (factor-is (c .before))
 
 net-is : (c : tie.After-round3) → c .round3 .result ≡ net (ticket (c .before .before .before))
 unfolding net
 net-is c = c .round3 .ensures ∙ ap (λ (n : ℕ). roundedDiv (n * (100000 - ticket (c .before .before .before) .sediment)) 100000) (gross-is (c .before))
-
-mul-supplied : tie.Need-mul-supplied
-mul-supplied c = omega (arith, supplied-small (bounds (start (c .before .before .before))))
 
 round-requires : tie.Need-round-requires
 round-requires c κs =
@@ -54,9 +49,7 @@ round-requires c κs =
 
 round-requires-2 : tie.Need-round-requires-2
 unfolding indicated
-round-requires-2 c κs =
-    let t = ticket (c .before) in
-    omega (arith, ap (λ (n : ℕ). (t .closing - t .opening) * n) (factor-is c), measured-small (bounds (start (asked (c .before)))))
+round-requires-2 c κs = omega (arith, ap (λ (n : ℕ). indicated (ticket (c .before)) * n) (factor-is c), measured-small (bounds (start (asked (c .before)))))
 
 round-requires-3 : tie.Need-round-requires-3
 round-requires-3 c κs =
@@ -70,5 +63,6 @@ returns c = λ i. record { factor = factor-is (c .before .before) i; gross = gro
 pub correct-spec : {M : Type 1} → statement M
 correct-spec =
     tie.close
-    (tie.spec (search needs) (search needs) (search needs) (search needs) (search needs) (search needs) mul-supplied (search needs)
-    (λ c. bounds (start (asked c)) .sediment) (search needs) round-requires (search needs) round-requires-2 (search needs) round-requires-3 returns)
+    (tie.spec (search needs) (search needs) (search needs) (search needs) (search needs) (search needs)
+    (λ c. omega (arith, supplied-small (bounds (start (c .before .before .before))))) (search needs) (λ c. bounds (start (asked c)) .sediment)
+    (search needs) round-requires (search needs) round-requires-2 (search needs) round-requires-3 returns)

@@ -10,9 +10,7 @@ use Rattle.ticket.proofs.round.Statement.{statement}
 use Rattle.ticket.proofs.round.Tie as tie
 
 value : (c : tie.After-round-or-zero) → c .round-or-zero .result ≡ roundedDiv (c .before .args .a * c .before .args .b) (c .before .args .d)
-value c =
-    let s = c .before in
-    c .round-or-zero .ensures ∙ value-below (s .args .a * s .args .b) (s .pre .0) 4294967295 (s .pre .1) (omega arith)
+value c = c .round-or-zero .ensures ∙ value-below (c .before .args .a * c .before .args .b) (c .before .pre .0) 4294967295 (c .before .pre .1) (omega arith)
 
 cast-result : tie.Need-cast-result
 cast-result c = let s = c .before in omega (arith, value c, at-most (s .args .a * s .args .b) 4294967295 (s .pre .0) (s .pre .1))

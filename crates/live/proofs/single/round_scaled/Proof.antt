@@ -26,15 +26,6 @@ offset-product c = product-small (c .before .before .fits .offset .fits) (bottom
 digits-product : (c : tie.After-raise-two) → c .before .before .args .times * (8388608 + c .before .before .args .bits % 8388608) < 2 ^ 63
 digits-product c = product-small (c .before .before .fits .times .fits) (omega arith)
 
-mul-add-sided : tie.Need-mul-add-sided
-mul-add-sided c = omega (arith, offset-product c)
-
-mul-add-sided-2 : tie.Need-mul-add-sided-2
-mul-add-sided-2 c = omega (arith, digits-product c)
-
-add-sided-requires : tie.Need-add-sided-requires
-add-sided-requires c κs = (offset-product c, digits-product c)
-
 round-half-up-requires : tie.Need-round-half-up-requires
 round-half-up-requires c κs =
     (subst⁻¹ (λ (n : ℕ). 0 < n) (c .before .raise-two .ensures) (pow-pos _), bottom-at-most (c .before))
@@ -53,5 +44,5 @@ returns-2 c =
 pub round-scaled-spec : {M : Type 1} → statement M
 round-scaled-spec =
     tie.close
-    (tie.spec returns (search needs) (search needs) (search needs) mul-add-sided (search needs) mul-add-sided-2 add-sided-requires
-    round-half-up-requires returns-2)
+    (tie.spec returns (search needs) (search needs) (search needs) (λ c. omega (arith, offset-product c)) (search needs)
+    (λ c. omega (arith, digits-product c)) (λ c κs. (offset-product c, digits-product c)) round-half-up-requires returns-2)
