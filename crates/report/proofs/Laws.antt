@@ -1,13 +1,14 @@
--- The writer's and the reader's answers, case by case; and that an answer told is the answer.
+-- When the writer and the reader accept, exactly; and that an answer told is the answer.
 use mathlib.Core.Path.{_≡_, refl, ap}
-use mathlib.Core.Bool.{true, false}
+use mathlib.Core.Bool.{Bool, true, not}
 use mathlib.Core.List.{List}
 use Prim.Native.Nat.{ℕ}
-use borrow.Author.Tests.{eq-eqb, ne-eqb}
+use borrow.Author.Tests.{eq-eqb, ne-eqb, eqb-true}
+use lib.Dec.{eqb}
 use lib.ListN.{length}
 use Rattle.octets.specs.Octets.{bytesOf}
-use Rattle.refusals.proofs.Laws.{refusal-one, done-one, refused-number, refused-record}
-use Rattle.refusals.specs.Told.{done, refused}
+use Rattle.refusals.proofs.Laws.{refusal-one, done-one, refused-number, refused-record, judged-was, judged-done, demand-was, orElse-fine-first, orElse-fine-next}
+use Rattle.refusals.specs.Told.{done, demand, orElse}
 use Rattle.report.specs.Judged.{jobOk, isReport, reportOf, writeOf, readOf, told}
 use Rattle.report.specs.Record.{listOf, fieldsOf, bytesOfReport}
 use Rattle.report.specs.declared.Answer.{Answer}
@@ -27,31 +28,32 @@ unfolding bytesOf bytesOfReport
 length-report r = refl
 
 module _ (s : List ℕ) where
-  pub read-size : (length s ≡ 32 → ⊥) → refused 14 0 ≡ readOf s
-  unfolding readOf
-  read-size h = rw (ne-eqb (length s) 32 h)
-
-  pub read-not : length s ≡ 32 → isReport s ≡ false → refused 15 0 ≡ readOf s
-  unfolding readOf
-  read-not h is = rw (eq-eqb (length s) 32 h, is)
-
-  pub read-yes : length s ≡ 32 → isReport s ≡ true → done (fieldsOf s) ≡ readOf s
+  pub read-yes : length s ≡ 32 → isReport s ≡ true → readOf s ≡ done (fieldsOf s)
   unfolding readOf
   read-yes h is = rw (eq-eqb (length s) 32 h, is)
 
+  -- a report is read back exactly when its 32 bytes are a report, and then as its fields
+  pub read-accepts : {r : Report} → readOf s ≡ done r → (length s ≡ 32) × (isReport s ≡ true) × (fieldsOf s ≡ r)
+  unfolding readOf
+  read-accepts is =
+      let size : Bool = eqb (length s) 32 in
+      let faults = orElse (demand size 14) (demand (isReport s) 15) in
+      let clear = judged-was faults (fieldsOf s) is in
+      (eqb-true (length s) 32 (demand-was size 14 (orElse-fine-first (demand size 14) _ clear)), demand-was (isReport s) 15 (orElse-fine-next (demand size 14) _ clear), judged-done faults (fieldsOf s) is)
+
 module _ (size number runs first : ℕ) (factors : Factors) where
-  pub write-size : (size ≡ 32 → ⊥) → refused 14 0 ≡ writeOf size number runs first factors
-  unfolding writeOf
-  write-size h = rw (ne-eqb size 32 h)
-
-  pub write-zero : size ≡ 32 → number ≡ 0 → refused 22 0 ≡ writeOf size number runs first factors
-  unfolding writeOf
-  write-zero h z = rw (eq-eqb size 32 h, eq-eqb number 0 z)
-
-  pub write-not : size ≡ 32 → (number ≡ 0 → ⊥) → jobOk runs first (listOf factors) ≡ false → refused 15 0 ≡ writeOf size number runs first factors
-  unfolding writeOf
-  write-not h z is = rw (eq-eqb size 32 h, ne-eqb number 0 z, is)
-
-  pub write-yes : size ≡ 32 → (number ≡ 0 → ⊥) → jobOk runs first (listOf factors) ≡ true → done (reportOf number runs first factors) ≡ writeOf size number runs first factors
+  pub write-yes : size ≡ 32 → (number ≡ 0 → ⊥) → jobOk runs first (listOf factors) ≡ true → writeOf size number runs first factors ≡ done (reportOf number runs first factors)
   unfolding writeOf
   write-yes h z is = rw (eq-eqb size 32 h, ne-eqb number 0 z, is)
+
+  pub write-accepts : {r : Report} → writeOf size number runs first factors ≡ done r → (size ≡ 32) × (not (eqb number 0) ≡ true) × (jobOk runs first (listOf factors) ≡ true) × (reportOf number runs first factors ≡ r)
+  unfolding writeOf
+  write-accepts is =
+      let same : Bool = eqb size 32 in
+      let some : Bool = not (eqb number 0) in
+      let ok : Bool = jobOk runs first (listOf factors) in
+      let faults = orElse (demand same 14) (orElse (demand some 22) (demand ok 15)) in
+      let clear = judged-was faults (reportOf number runs first factors) is in
+      let rest = orElse-fine-next (demand same 14) _ clear in
+      let sized = eqb-true size 32 (demand-was same 14 (orElse-fine-first (demand same 14) _ clear)) in
+      (sized, demand-was some 22 (orElse-fine-first (demand some 22) _ rest), demand-was ok 15 (orElse-fine-next (demand some 22) _ rest), judged-done faults (reportOf number runs first factors) is)

@@ -15,25 +15,13 @@ use Rattle.octets.specs.Octets.{byteAt, wordAt, longAt, isZeroAt, zeroBetween, 
 use Rattle.octets.proofs.Laws.{Bytes, read-part, bytes-read, zero-part}
 use Rattle.ranges.specs.Table.{runFactorOk, runsOk}
 use Rattle.ranges.proofs.Laws.{both-first, both-second, both-true, within-high}
-use Rattle.refusals.specs.Told.{Told, done, demand, orElse}
-use Rattle.refusals.proofs.Laws.{judged-was, judged-done, demand-was, orElse-fine-first, orElse-fine-next}
-use Rattle.report.specs.Judged.{factorsOk, firstOk, jobOk, reportOk, isReport, reportOf, writeOf, readOf, leftBy}
+use Rattle.refusals.specs.Told.{Told, done, leftBy}
+use Rattle.report.specs.Judged.{factorsOk, firstOk, jobOk, reportOk, isReport, reportOf, writeOf, readOf}
 use Rattle.group.specs.Mean.{meanOf}
 use Rattle.report.specs.Record.{listOf, fieldsOf, bytesOfReport}
 use Rattle.report.specs.declared.Factors.{Factors}
 use Rattle.report.specs.declared.Report.{Report}
-use Rattle.report.proofs.Laws.{length-report, read-yes, write-yes}
-
--- ---- what is accepted, exactly
-
--- a report is read back exactly when its 32 bytes are a report, and then as its fields
-pub read-accepts : {r : Report} (s : List ℕ) → readOf s ≡ done r → (length s ≡ 32) × (isReport s ≡ true) × (fieldsOf s ≡ r)
-unfolding readOf
-read-accepts s is =
-    let size : Bool = eqb (length s) 32 in
-    let faults = orElse (demand size 14) (demand (isReport s) 15) in
-    let clear = judged-was faults (fieldsOf s) is in
-    (eqb-true (length s) 32 (demand-was size 14 (orElse-fine-first (demand size 14) _ clear)), demand-was (isReport s) 15 (orElse-fine-next (demand size 14) _ clear), judged-done faults (fieldsOf s) is)
+use Rattle.report.proofs.Laws.{length-report, read-yes, read-accepts, write-yes, write-accepts}
 
 -- ---- the fields of the bytes written
 
@@ -41,51 +29,29 @@ read-accepts s is =
 pub record Fits (r : Report) : Type 0 where
   pub number : r .number < 4294967296
   pub factor : r .factor < 65536
-  pub one : r .factors .one < 65536
-  pub two : r .factors .two < 65536
-  pub three : r .factors .three < 65536
-  pub four : r .factors .four < 65536
-  pub five : r .factors .five < 65536
+  pub factors : (k : ℕ) → getD (listOf (r .factors)) k 0 < 65536
 
-word-back : (r : Report) (at x : ℕ) → x < 65536 → at ≤ 32 → take 2 (drop at (bytesOfReport r)) ≡ bytesOf 2 x → wordAt (bytesOfReport r) at ≡ x
+word-back : (r : Report) (at : ℕ) {x : ℕ} → x < 65536 → at ≤ 32 → take 2 (drop at (bytesOfReport r)) ≡ bytesOf 2 x → wordAt (bytesOfReport r) at ≡ x
 unfolding wordAt
-word-back r at x h l part = read-part 2 x (bytesOfReport r) at h (omega (arith, length-report r)) part
+word-back r at {x} h l part = read-part 2 x (bytesOfReport r) at h (omega (arith, length-report r)) part
 
 pub fields-back : (r : Report) → Fits r → fieldsOf (bytesOfReport r) ≡ r
-unfolding byteAt wordAt longAt bytesOf fieldsOf bytesOfReport
+unfolding byteAt wordAt longAt bytesOf listOf fieldsOf bytesOfReport
 fields-back r fits =
-    λ i.
-    record {
-      number = read-part 4 (r .number) (bytesOfReport r) 0 (fits .number) (omega arith) refl i;
-      factor = word-back r 4 (r .factor) (fits .factor) (omega arith) refl i;
-      first = r .first;
-      runs = r .runs;
-      factors =
-          record {
-            one = word-back r 8 (r .factors .one) (fits .one) (omega arith) refl i;
-            two = word-back r 10 (r .factors .two) (fits .two) (omega arith) refl i;
-            three = word-back r 12 (r .factors .three) (fits .three) (omega arith) refl i;
-            four = word-back r 14 (r .factors .four) (fits .four) (omega arith) refl i;
-            five = word-back r 16 (r .factors .five) (fits .five) (omega arith) refl i;
-          };
-    }
+    let one = word-back r 8 (fits .factors 0) (omega arith) refl in
+    let two = word-back r 10 (fits .factors 1) (omega arith) refl in
+    let three = word-back r 12 (fits .factors 2) (omega arith) refl in
+    let four = word-back r 14 (fits .factors 3) (omega arith) refl in
+    let five = word-back r 16 (fits .factors 4) (omega arith) refl in
+    let number = read-part 4 (r .number) (bytesOfReport r) 0 (fits .number) (omega arith) refl in
+    let factor = word-back r 4 (fits .factor) (omega arith) refl in
+    λ i. record { number = number i; factor = factor i; first = r .first; runs = r .runs; factors = record { one = one i; two = two i; three = three i; four = four i; five = five i } }
 
 pub rest-zero : (r : Report) → zeroBetween (bytesOfReport r) 18 32 ≡ true
 unfolding firstToLast isZeroAt zeroBetween bytesOf bytesOfReport
 rest-zero r = refl
 
 -- ---- writing, then reading
-
-pub write-accepts : {r : Report} (size number runs first : ℕ) (factors : Factors) → writeOf size number runs first factors ≡ done r → (size ≡ 32) × (not (eqb number 0) ≡ true) × (jobOk runs first (listOf factors) ≡ true) × (reportOf number runs first factors ≡ r)
-unfolding writeOf
-write-accepts size number runs first factors is =
-    let same : Bool = eqb size 32 in
-    let some : Bool = not (eqb number 0) in
-    let ok : Bool = jobOk runs first (listOf factors) in
-    let faults = orElse (demand same 14) (orElse (demand some 22) (demand ok 15)) in
-    let clear = judged-was faults (reportOf number runs first factors) is in
-    let rest = orElse-fine-next (demand same 14) _ clear in
-    (eqb-true size 32 (demand-was same 14 (orElse-fine-first (demand same 14) _ clear)), demand-was some 22 (orElse-fine-first (demand some 22) _ rest), demand-was ok 15 (orElse-fine-next (demand some 22) _ rest), judged-done faults (reportOf number runs first factors) is)
 
 -- factors in range are at most 12000 each
 factor-high : (xs : List ℕ) → factorsOk xs ≡ true → (k : ℕ) → getD xs k 0 ≤ 12000
@@ -94,43 +60,40 @@ factor-high [] ok k = omega arith
 factor-high (x ∷ xs) ok zero = within-high 8000 12000 x (both-first (runFactorOk x) (factorsOk xs) ok)
 factor-high (x ∷ xs) ok (suc k) = factor-high xs (both-second (runFactorOk x) (factorsOk xs) ok) k
 
--- the report of a job that may be written fits its places
-job-fits : (number runs first : ℕ) (factors : Factors) → number < 4294967296 → jobOk runs first (listOf factors) ≡ true → Fits (reportOf number runs first factors)
-unfolding jobOk reportOf listOf
-job-fits number runs first factors h ok =
-    let xs : List ℕ = listOf factors in
-    let in-range : factorsOk xs ≡ true = both-second (firstOk first runs) (factorsOk xs) (both-second (runsOk runs) (firstOk first runs && factorsOk xs) ok) in
-    let mean : meanOf xs ≤ 12000 = mean-at-most xs (omega arith) 12000 (λ k _. factor-high xs in-range k) in
-    record {
-      number = h;
-      factor = omega arith;
-      one = omega (arith, factor-high xs in-range 0);
-      two = omega (arith, factor-high xs in-range 1);
-      three = omega (arith, factor-high xs in-range 2);
-      four = omega (arith, factor-high xs in-range 3);
-      five = omega (arith, factor-high xs in-range 4);
-    }
-
--- what may be written is a report
-job-report : (number runs first : ℕ) (factors : Factors) → not (eqb number 0) ≡ true → jobOk runs first (listOf factors) ≡ true → reportOk (reportOf number runs first factors) ≡ true
-unfolding reportOk reportOf
-job-report number runs first factors some ok = both-true some (both-true ok (eq-eqb (meanOf (listOf factors)) (meanOf (listOf factors)) refl))
-
 -- a report's bytes are read back as the report
 pub report-back : (r : Report) → Fits r → reportOk r ≡ true → readOf (bytesOfReport r) ≡ done r
 unfolding isReport
 report-back r fits ok =
     let back : fieldsOf (bytesOfReport r) ≡ r = fields-back r fits in
-    sym (read-yes (bytesOfReport r) (length-report r) (both-true (ap reportOk back ∙ ok) (rest-zero r))) ∙ ap done back
+    read-yes (bytesOfReport r) (length-report r) (both-true (ap reportOk back ∙ ok) (rest-zero r)) ∙ ap done back
 
--- 'writing then reading returns the same fields'
-pub write-read : {r : Report} (number runs first : ℕ) (factors : Factors) (found : List ℕ) → number < 4294967296 → writeOf (length found) number runs first factors ≡ done r → readOf (leftBy (writeOf (length found) number runs first factors) found) ≡ done r
-unfolding leftBy
-write-read number runs first factors found h is =
-    let w = write-accepts (length found) number runs first factors is in
-    ap (λ (t : Told Report). readOf (leftBy t found)) (is ∙ ap done (sym (w .3)))
-    ∙ report-back (reportOf number runs first factors) (job-fits number runs first factors h (w .2)) (job-report number runs first factors (w .1) (w .2))
-    ∙ ap done (w .3)
+some-values : (factors : Factors) → 0 < length (listOf factors)
+unfolding listOf
+some-values factors = omega arith
+
+module _ (number runs first : ℕ) (factors : Factors) where
+  -- the report of a job that may be written fits its places
+  job-fits : number < 4294967296 → jobOk runs first (listOf factors) ≡ true → Fits (reportOf number runs first factors)
+  unfolding jobOk reportOf
+  job-fits h ok =
+      let xs : List ℕ = listOf factors in
+      let in-range : factorsOk xs ≡ true = both-second (firstOk first runs) (factorsOk xs) (both-second (runsOk runs) (firstOk first runs && factorsOk xs) ok) in
+      let mean : meanOf xs ≤ 12000 = mean-at-most xs (some-values factors) 12000 (λ k _. factor-high xs in-range k) in
+      record { number = h; factor = omega arith; factors = λ k. omega (arith, factor-high xs in-range k) }
+
+  -- what may be written is a report
+  job-report : not (eqb number 0) ≡ true → jobOk runs first (listOf factors) ≡ true → reportOk (reportOf number runs first factors) ≡ true
+  unfolding reportOk reportOf
+  job-report some ok = both-true some (both-true ok (eq-eqb (meanOf (listOf factors)) (meanOf (listOf factors)) refl))
+
+  -- 'writing then reading returns the same fields'
+  pub write-read : {r : Report} (found : List ℕ) → number < 4294967296 → writeOf (length found) number runs first factors ≡ done r
+      → readOf (leftBy (writeOf (length found) number runs first factors) bytesOfReport found) ≡ done r
+  write-read found h is =
+      let w = write-accepts (length found) number runs first factors is in
+      ap (λ (t : Told Report). readOf (leftBy t bytesOfReport found)) (is ∙ ap done (sym (w .3)))
+      ∙ report-back (reportOf number runs first factors) (job-fits h (w .2)) (job-report (w .1) (w .2))
+      ∙ ap done (w .3)
 
 -- ---- reading, then writing
 
@@ -181,17 +144,17 @@ read-writable r ok =
     let rest : (job && mean) ≡ true = both-second some (job && mean) ok in
     let holds : meanOf (listOf (r .factors)) ≡ r .factor = sym (eqb-true (r .factor) (meanOf (listOf (r .factors))) (both-second job mean rest)) in
     let numbered = eqb-false (r .number) 0 (not-true (eqb (r .number) 0) (both-first some (job && mean) ok)) in
-    sym (write-yes 32 (r .number) (r .runs) (r .first) (r .factors) refl numbered (both-first job mean rest))
+    write-yes 32 (r .number) (r .runs) (r .first) (r .factors) refl numbered (both-first job mean rest)
     ∙ ap done (λ i. record { number = r .number; factor = holds i; first = r .first; runs = r .runs; factors = r .factors })
 
 -- 'reading then writing the same bytes'
-pub read-write : {r : Report} (s found : List ℕ) → Bytes s → length found ≡ 32 → readOf s ≡ done r → leftBy (writeOf (length found) (r .number) (r .runs) (r .first) (r .factors)) found ≡ s
-unfolding leftBy isReport
+pub read-write : {r : Report} (s found : List ℕ) → Bytes s → length found ≡ 32 → readOf s ≡ done r → leftBy (writeOf (length found) (r .number) (r .runs) (r .first) (r .factors)) bytesOfReport found ≡ s
+unfolding isReport
 read-write {r} s found small long is =
     let got = read-accepts s is in
     let whole = got .1 in
     let ok : reportOk r ≡ true = ap reportOk (sym (got .2)) ∙ both-first (reportOk (fieldsOf s)) (zeroBetween s 18 32) whole in
-    ap (λ (n : ℕ). leftBy (writeOf n (r .number) (r .runs) (r .first) (r .factors)) found) long
-    ∙ ap (λ (t : Told Report). leftBy t found) (read-writable r ok)
+    ap (λ (n : ℕ). leftBy (writeOf n (r .number) (r .runs) (r .first) (r .factors)) bytesOfReport found) long
+    ∙ ap (λ (t : Told Report). leftBy t bytesOfReport found) (read-writable r ok)
     ∙ ap bytesOfReport (sym (got .2))
     ∙ bytes-back s small (got .0) (both-second (reportOk (fieldsOf s)) (zeroBetween s 18 32) whole)

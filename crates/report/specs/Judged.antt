@@ -54,11 +54,6 @@ writeOf size number runs first factors =
 unfoldable pub readOf : List ℕ → Told Report
 readOf s = judged (orElse (demand (eqb (length s) 32) 14) (demand (isReport s) 15)) (fieldsOf s)
 
--- the buffer left behind: the report's bytes, or as found
-unfoldable pub leftBy : Told Report → List ℕ → List ℕ
-leftBy (done r) found = bytesOfReport r
-leftBy (refused number at) found = found
-
 -- what the answer tells: the report's fields, or the number and record given back
 abbrev pub told : Answer → Told Report
 told (Fields r) = done r

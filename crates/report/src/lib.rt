@@ -1,11 +1,12 @@
 // The report record of a job (01, 'Records'): 32 bytes, written and read back.
 use refusals::Refusal;
+use refusals::Verdict;
 ghost use mathlib.Core.Path.{_≡_};
 ghost use lib.ListN.{length};
-ghost use Rattle.ranges.specs.Table.{runFactorOk};
+ghost use Rattle.refusals.specs.Told.{leftBy};
 ghost use Rattle.group.specs.Mean.{meanOf};
 ghost use Rattle.report.specs.Record.{listOf, fieldsOf, bytesOfReport};
-ghost use Rattle.report.specs.Judged.{factorsOk, jobOk, reportOk, writeOf, readOf, leftBy, told};
+ghost use Rattle.report.specs.Judged.{factorsOk, jobOk, reportOk, writeOf, readOf, told};
 
 // Five consecutive run factors, each in 0.0001.
 pub struct Factors {
@@ -37,27 +38,29 @@ pub enum Answer {
 // Writes the report of a job into the lent buffer: its factor is the mean of the five, rounded.
 pub fn write(number: u32, runs: u8, first: u8, factors: Factors, buffer: &mut [u8]) -> Answer
     ensures answer { λ r. ⌜ told r ≡ writeOf (length (now (buffer .entry))) number runs first factors ⌝ }
-    ensures left { λ _. ⌜ now (buffer .exit) ≡ leftBy (writeOf (length (now (buffer .entry))) number runs first factors) (now (buffer .entry)) ⌝ }
+    ensures left { λ _. ⌜ now (buffer .exit) ≡ leftBy (writeOf (length (now (buffer .entry))) number runs first factors) bytesOfReport (now (buffer .entry)) ⌝ }
 {
-    if buffer.len() != 32 {
-        return Answer::Refused(Refusal::ReportBuffer);
-    }
-    if number == 0 {
-        return Answer::Refused(Refusal::NumberZero);
-    }
-    if is_job(runs, first, factors) {
-        let report = Report {
-            number,
-            factor: mean(factors),
-            first,
-            runs,
-            factors,
-        };
-        let bytes = lay_out(report);
-        octets::write_at(&bytes, buffer, 0);
-        Answer::Fields(report)
-    } else {
-        Answer::Refused(Refusal::NotReport)
+    let verdict = refusals::or_else(
+        refusals::demand(buffer.len() == 32, Refusal::ReportBuffer),
+        refusals::or_else(
+            refusals::demand(number != 0, Refusal::NumberZero),
+            refusals::demand(is_job(runs, first, factors), Refusal::NotReport),
+        ),
+    );
+    match verdict {
+        Verdict::Fine => {
+            let report = Report {
+                number,
+                factor: mean(factors),
+                first,
+                runs,
+                factors,
+            };
+            let bytes = lay_out(report);
+            octets::write_at(&bytes, buffer, 0);
+            Answer::Fields(report)
+        }
+        Verdict::Refused(refusal) => Answer::Refused(refusal),
     }
 }
 
@@ -65,14 +68,17 @@ pub fn write(number: u32, runs: u8, first: u8, factors: Factors, buffer: &mut [u
 pub fn read(bytes: &[u8]) -> Answer
     ensures { λ r. ⌜ told r ≡ readOf (now (bytes .entry)) ⌝ }
 {
-    if bytes.len() != 32 {
-        return Answer::Refused(Refusal::ReportBuffer);
-    }
     let report = decode(bytes);
-    if is_report(report) & octets::are_zero(bytes, 18, 32) {
-        Answer::Fields(report)
-    } else {
-        Answer::Refused(Refusal::NotReport)
+    let verdict = refusals::or_else(
+        refusals::demand(bytes.len() == 32, Refusal::ReportBuffer),
+        refusals::demand(
+            is_report(report) & octets::are_zero(bytes, 18, 32),
+            Refusal::NotReport,
+        ),
+    );
+    match verdict {
+        Verdict::Fine => Answer::Fields(report),
+        Verdict::Refused(refusal) => Answer::Refused(refusal),
     }
 }
 
@@ -144,25 +150,27 @@ fn lay_out(r: Report) -> [u8; 32]
     ]
 }
 
-// To the nearest whole number: no exact half can occur in a mean of five.
+// The mean of the five, rounded.
 fn mean(f: Factors) -> u16
     ensures { λ r. ⌜ r ≡ meanOf (listOf f) ⌝ }
 {
-    let sum = f.one as u32 + f.two as u32 + f.three as u32 + f.four as u32 + f.five as u32;
-    ((2 * sum + 5) / 10) as u16
-}
-
-fn is_factor(x: u16) -> bool
-    ensures { λ r. ⌜ r ≡ runFactorOk x ⌝ }
-{
-    ranges::is_within(x as u64, 8000, 12000)
+    let five = [
+        f.one as u64,
+        f.two as u64,
+        f.three as u64,
+        f.four as u64,
+        f.five as u64,
+    ];
+    group::mean(&five) as u16
 }
 
 fn are_factors(f: Factors) -> bool
     ensures { λ r. ⌜ r ≡ factorsOk (listOf f) ⌝ }
 {
-    is_factor(f.one)
-        & (is_factor(f.two) & (is_factor(f.three) & (is_factor(f.four) & is_factor(f.five))))
+    ranges::is_run_factor(f.one as u64)
+        & (ranges::is_run_factor(f.two as u64)
+            & (ranges::is_run_factor(f.three as u64)
+                & (ranges::is_run_factor(f.four as u64) & ranges::is_run_factor(f.five as u64))))
 }
 
 // What the writer and the reader both judge: runs, first run and factors.
@@ -170,8 +178,7 @@ fn is_job(runs: u8, first: u8, factors: Factors) -> bool
     ensures { λ r. ⌜ r ≡ jobOk runs first (listOf factors) ⌝ }
 {
     let last = first as u16 + 4;
-    ranges::is_within(runs as u64, 5, 20)
-        & (((1 <= first) & (last <= runs as u16)) & are_factors(factors))
+    ranges::are_runs(runs as u64) & (((1 <= first) & (last <= runs as u16)) & are_factors(factors))
 }
 
 fn is_report(r: Report) -> bool

@@ -20,14 +20,7 @@ returns c =
       factor = c6 .word-at6 .ensures i;
       first = c7 .byte-at .ensures i;
       runs = c .byte-at2 .ensures i;
-      factors =
-          record {
-            one = c1 .before .word-at .ensures i;
-            two = c1 .word-at2 .ensures i;
-            three = c2 .word-at3 .ensures i;
-            four = c3 .word-at4 .ensures i;
-            five = c4 .word-at5 .ensures i;
-          };
+      factors = record { one = c1 .before .word-at .ensures i; two = c1 .word-at2 .ensures i; three = c2 .word-at3 .ensures i; four = c3 .word-at4 .ensures i; five = c4 .word-at5 .ensures i };
     }
 
 pub decode-spec : {M : Type 1} → statement M

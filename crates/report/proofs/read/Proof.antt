@@ -1,38 +1,41 @@
--- `report::read` meets its contract: each return is a case of `readOf`.
+-- `report::read` meets its contract: 14, then 15.
 use mathlib.Core.Path.{_≡_, sym, _∙_, ap}
-use mathlib.Core.Bool.{Bool, _&&_}
-use mathlib.Core.List.{List}
-use Prim.Native.Nat.{ℕ}
-use Rattle.octets.specs.Octets.{zeroBetween}
-use Rattle.refusals.specs.Told.{done}
-use Rattle.report.specs.Judged.{reportOk, isReport}
-use Rattle.report.specs.Record.{fieldsOf}
-use Rattle.report.specs.declared.Report.{Report}
-use Rattle.report.proofs.Laws.{read-size, read-not, read-yes}
+use mathlib.Core.Bool.{_&&_}
+use lib.Dec.{eqb}
+use lib.ListN.{length}
+use Rattle.refusals.specs.Told.{done, demand, orElse}
+use Rattle.refusals.specs.Verdict.{faultOf}
+use Rattle.refusals.proofs.Laws.{judged-fine, judged-fault}
+use Rattle.report.specs.Judged.{reportOk, isReport, readOf}
 use borrow.Author.Needs.{needs}
 use Rattle.report.proofs.read.Statement.{statement}
 use Rattle.report.proofs.read.Tie as tie
 
--- the two tests together are `isReport`
-judged-by : (s : List ℕ) {r : Report} {ok zeros t : Bool} → r ≡ fieldsOf s → ok ≡ reportOk r → zeros ≡ zeroBetween s 18 32 → (ok && zeros) ≡ t → isReport s ≡ t
+abbrev judging : tie.After-or-else → tie.After-demand
+judging c = c .before .before .before .before
+
+abbrev start : tie.After-or-else → tie.Start
+start c = judging c .before .before .before
+
+judges : (c : tie.After-or-else) → faultOf (c .or-else .result) ≡ orElse (demand (eqb (length (start c .args .bytes .now)) 32) 14) (demand (isReport (start c .args .bytes .now)) 15)
 unfolding isReport
-judged-by s r-is ok-is zeros-is t-is = sym (λ i. (ok-is ∙ ap reportOk r-is) i && zeros-is i) ∙ t-is
+judges c =
+    let z = c .before .before in
+    let ok = z .before .is-report .ensures ∙ ap reportOk (judging c .before .decode .ensures) in
+    c .or-else .ensures ∙ (λ i. orElse (judging c .demand .ensures i) ((c .before .demand2 .ensures ∙ (λ j. demand (ok j && z .are-zero .ensures j) 15)) i))
 
 returns : tie.Need-returns
-returns c = read-size (c .before .before .args .bytes .now) (c .if1 .taken)
+unfolding readOf
+returns c =
+    let o = c .before .before in
+    ap done (judging o .before .decode .ensures) ∙ sym (judged-fine _ (sym (judges o) ∙ ap faultOf (c .enum-told .given .1)))
 
 returns-2 : tie.Need-returns-2
-returns-2 c =
-    let d = c .before .before .before in
-    let s = d .before .before .before .args .bytes .now in
-    ap done (d .decode .ensures)
-    ∙ read-yes s (d .before .if1 .left) (judged-by s (d .decode .ensures) (c .before .before .is-report .ensures) (c .before .are-zero .ensures) (c .if2 .taken))
-
-returns-3 : tie.Need-returns-3
-returns-3 c =
-    let d = c .before .before .before in
-    let s = d .before .before .before .args .bytes .now in
-    read-not s (d .before .if1 .left) (judged-by s (d .decode .ensures) (c .before .before .is-report .ensures) (c .before .are-zero .ensures) (c .if2 .left))
+unfolding readOf
+returns-2 c = sym (judged-fault _ (sym (judges (c .before .before .before)) ∙ ap faultOf (c .before .verdict .given .1)))
 
 pub read-spec : {M : Type 1} → statement M
-read-spec = tie.close (tie.spec returns (search needs) (search needs) (search needs) returns-2 returns-3)
+read-spec =
+    tie.close
+    (tie.spec (search needs) (search needs) (search needs) (search needs) (search needs) (search needs) (search needs) (search needs) returns
+    returns-2)

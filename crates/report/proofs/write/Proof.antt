@@ -1,67 +1,62 @@
--- `report::write` meets its contract: each return is a case of `writeOf`, and only the last has written.
+-- `report::write` meets its contract: 14, 22, 15; and the record takes the place of all 32 bytes.
 use mathlib.Core.Path.{_≡_, sym, _∙_, ap}
+use mathlib.Core.Bool.{Bool, not}
 use mathlib.Core.List.{List}
 use Prim.Native.Nat.{ℕ}
+use lib.Dec.{eqb}
 use lib.ListN.{length}
 use Rattle.octets.specs.Octets.{writtenAt}
 use Rattle.octets.proofs.Laws.{written-whole}
-use Rattle.refusals.specs.Told.{Told, done, refused}
-use Rattle.report.specs.Judged.{reportOf, leftBy}
-use Rattle.report.specs.Record.{bytesOfReport}
+use Rattle.refusals.specs.Told.{Told, done, demand, orElse, leftBy}
+use Rattle.refusals.specs.Verdict.{faultOf}
+use Rattle.refusals.proofs.Laws.{judged-fine, judged-fault}
+use Rattle.report.specs.Judged.{jobOk, reportOf, writeOf}
+use Rattle.report.specs.Record.{listOf, bytesOfReport}
 use Rattle.report.specs.declared.Report.{Report}
-use Rattle.report.proofs.Laws.{length-report, write-size, write-zero, write-not, write-yes}
+use Rattle.report.proofs.Laws.{length-report, write-accepts}
 use borrow.Author.Needs.{needs}
 use Rattle.report.proofs.write.Statement.{statement}
 use Rattle.report.proofs.write.Tie as tie
 
--- a refusal leaves every byte as found
-as-found : {number at : ℕ} {t : Told Report} (found : List ℕ) → refused number at ≡ t → (refused number at ≡ t) × (found ≡ leftBy t found)
-unfolding leftBy
-as-found found is = (is, ap (λ (t : Told Report). leftBy t found) is)
+abbrev judged : tie.After-or-else2 → tie.After-is-job
+judged c = c .before .before .before
 
-as-written : {r : Report} {t : Told Report} {exit : List ℕ} (found : List ℕ) → done r ≡ t → exit ≡ bytesOfReport r → (done r ≡ t) × (exit ≡ leftBy t found)
-unfolding leftBy
-as-written found is left = (is, left ∙ ap (λ (t : Told Report). leftBy t found) is)
+abbrev start : tie.After-or-else2 → tie.Start
+start c = judged c .before .before .before .before
 
--- the record takes the place of all 32 bytes
-whole : {bytes exit : List ℕ} (r : Report) (found : List ℕ) → length found ≡ 32 → exit ≡ writtenAt found 0 bytes → bytes ≡ bytesOfReport r → exit ≡ bytesOfReport r
-whole r found long exit-is bytes-is =
-    exit-is ∙ ap (λ (b : List ℕ). writtenAt found 0 b) bytes-is ∙ written-whole found (bytesOfReport r) (length-report r ∙ sym long)
+abbrev found : tie.After-or-else2 → List ℕ
+found c = start c .args .buffer .now
+
+judges : (c : tie.After-or-else2) → faultOf (c .or-else2 .result)
+    ≡ orElse (demand (eqb (length (found c)) 32) 14) (orElse (demand (not (eqb (start c .args .number) 0)) 22) (demand (jobOk (start c .args .runs) (start c .args .first) (listOf (start c .args .factors))) 15))
+judges c =
+    let j = judged c in
+    let job = c .before .before .demand3 .ensures ∙ ap (λ (b : Bool). demand b 15) (j .is-job .ensures) in
+    c .or-else2 .ensures ∙ (λ i. orElse (j .before .before .demand .ensures i) ((c .before .or-else .ensures ∙ (λ k. orElse (j .before .demand2 .ensures k) (job k))) i))
 
 returns : tie.Need-returns
+unfolding reportOf writeOf
 returns c =
-    let a = c .before .before .args in
-    as-found (a .buffer .now) (write-size (length (a .buffer .now)) (a .number) (a .runs) (a .first) (a .factors) (c .if1 .taken))
+    let w = c .before .before in
+    let l = w .before .before .before in
+    let m = l .before in
+    let o = m .before .before .before in
+    let a = start o .args in
+    let is = sym (judged-fine (reportOf (a .number) (a .runs) (a .first) (a .factors)) (sym (judges o) ∙ ap faultOf (m .before .enum-told .given .1))) in
+    let told = ap done (λ i. record { number = a .number; factor = m .mean .ensures i; first = a .first; runs = a .runs; factors = a .factors }) ∙ is in
+    let size = write-accepts (length (found o)) (a .number) (a .runs) (a .first) (a .factors) (sym is) .0 in
+    let whole = w .write-at .ensures ∙ ap (λ (b : List ℕ). writtenAt (found o) 0 b) (l .lay-out .ensures) ∙ written-whole (found o) _ (length-report _ ∙ sym size) in
+    (told, whole ∙ ap (λ (t : Told Report). leftBy t bytesOfReport (found o)) told)
 
 returns-2 : tie.Need-returns-2
+unfolding writeOf
 returns-2 c =
-    let a = c .before .before .before .args in
-    as-found (a .buffer .now) (write-zero (length (a .buffer .now)) (a .number) (a .runs) (a .first) (a .factors) (c .before .if1 .left) (c .if2 .taken))
-
-returns-3 : tie.Need-returns-3
-unfolding reportOf
-returns-3 c =
-    let stored = c .before .before in
-    let laid = stored .before .before .before in
-    let averaged = laid .before in
-    let judged = averaged .before in
-    let passed = judged .before .before in
-    let a = passed .before .before .before .args in
-    let r : Report = record { number = a .number; factor = averaged .mean .result; first = a .first; runs = a .runs; factors = a .factors } in
-    let ok = sym (judged .before .is-job .ensures) ∙ judged .if3 .taken in
-    as-written (a .buffer .now)
-    (ap done (λ i. record { number = a .number; factor = averaged .mean .ensures i; first = a .first; runs = a .runs; factors = a .factors })
-    ∙ write-yes (length (a .buffer .now)) (a .number) (a .runs) (a .first) (a .factors) (passed .before .if1 .left) (passed .if2 .left) ok)
-    (whole r (a .buffer .now) (passed .before .if1 .left) (stored .write-at .ensures) (laid .lay-out .ensures))
-
-returns-4 : tie.Need-returns-4
-returns-4 c =
-    let a = c .before .before .before .before .before .args in
-    let passed = c .before .before in
-    as-found (a .buffer .now)
-    (write-not (length (a .buffer .now)) (a .number) (a .runs) (a .first) (a .factors) (passed .before .if1 .left) (passed .if2 .left) (sym (c .before .is-job .ensures) ∙ c .if3 .left))
+    let o = c .before .before .before in
+    let is = sym (judged-fault _ (sym (judges o) ∙ ap faultOf (c .before .verdict .given .1))) in
+    (is, ap (λ (t : Told Report). leftBy t bytesOfReport (found o)) is)
 
 pub write-spec : {M : Type 1} → statement M
 write-spec =
     tie.close
-    (tie.spec returns returns-2 (search needs) (search needs) (search needs) (search needs) (search needs) (search needs) returns-3 returns-4)
+    (tie.spec (search needs) (search needs) (search needs) (search needs) (search needs) (search needs) (search needs) (search needs) (search needs)
+    (search needs) (search needs) (search needs) (search needs) returns returns-2)
