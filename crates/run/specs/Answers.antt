@@ -1,64 +1,46 @@
 -- 01, 'Numbers given back', for one run: 3, 4, 5, then 7 and 8 on the rounded figures.
-use mathlib.Core.Bool.{Bool, _&&_}
 use mathlib.Core.List.{List}
 use Prim.Native.Nat.{ℕ}
 use lib.Dec.{eqb}
 use lib.ListN.{length}
 use Rattle.refusals.specs.Table.{numberOf, recordOf}
-use Rattle.refusals.specs.Told.{Told, done, refused, Fault, demand, demandAt, orElse, judged}
+use Rattle.refusals.specs.Told.{Told, done, refused, Fault, demand, demandAt, orElse, unless, judged}
 use Rattle.ranges.specs.Table.{kFactorOk, volumeOk, runFactorOk}
-use Rattle.factors.specs.Metal.{metalOk}
-use Rattle.factors.specs.Answers.{pipeOk}
+use Rattle.factors.specs.Prover.{proverOk}
 use Rattle.factors.specs.declared.Prover.{Prover}
-use Rattle.run.specs.Record.{runAt, fieldsOk, unnamedOk}
+use Rattle.run.specs.Record.{runSize, runAt, runOk, unnamedOk}
 use Rattle.run.specs.Figures.{figuresOf}
 use Rattle.run.specs.declared.Run.{Run}
 use Rattle.run.specs.declared.Figures.{Figures as Sheet}
 use Rattle.run.specs.declared.Worked.{Worked}
 use Rattle.run.specs.declared.Worked.the-variants.{Figures, Refused}
-use Rattle.run.specs.declared.Outcome.{Outcome}
-use Rattle.run.specs.declared.Outcome.the-variants.{Factor, Refused as NoFactor}
 
--- the prover's settings in range, or number 3
-unfoldable pub proverOk : Prover → Bool
-proverOk prover = metalOk (prover .metal) && (pipeOk (prover .pipe) && volumeOk (prover .base))
+-- 3, 4, 5: what is given, `at` being the run's record
+unfoldable pub givenFault : Prover → ℕ → Run → ℕ → Fault
+givenFault prover k run at = orElse (demand (proverOk prover) 3) (orElse (demand (kFactorOk k) 4) (demandAt (runOk run) 5 at))
 
 -- 'indicated volume out of range after rounding', 'run factor out of range', of the run's own record
 unfoldable pub figuresFault : Sheet → ℕ → Fault
 figuresFault figures at = orElse (demandAt (volumeOk (figures .indicated)) 7 at) (demandAt (runFactorOk (figures .factor)) 8 at)
 
--- one run worked out, `at` being its record
-unfoldable pub workedOf : Prover → ℕ → Run → ℕ → Told Sheet
-workedOf prover k run at =
-    judged
-    (orElse (demand (proverOk prover) 3)
-    (orElse (demand (kFactorOk k) 4)
-    (orElse (demandAt (fieldsOk run) 5 at)
-    (figuresFault (figuresOf prover k run) at))))
-    (figuresOf prover k run)
+-- the figures of a run that is in order, or 7 or 8 on them
+unfoldable pub figuresTold : Prover → ℕ → Run → ℕ → Told Sheet
+figuresTold prover k run at = judged (figuresFault (figuresOf prover k run) at) (figuresOf prover k run)
 
--- one run shown from its record alone: 1 unless it has 32 bytes, 3, 4, then 5, 2, 7, 8 with record 1
+-- one run worked out
+unfoldable pub workedOf : Prover → ℕ → Run → ℕ → Told Sheet
+workedOf prover k run at = unless (givenFault prover k run at) (figuresTold prover k run at)
+
+-- one run shown from its record alone: 1 unless it is whole, 3, 4, then 5, 2, 7, 8 with record 1
 unfoldable pub shownOf : Prover → ℕ → List ℕ → Told Sheet
 shownOf prover k s =
-    judged
-    (orElse (demand (eqb (length s) 32) 1)
-    (orElse (demand (proverOk prover) 3)
-    (orElse (demand (kFactorOk k) 4)
-    (orElse (demandAt (fieldsOk (runAt s 0)) 5 1)
-    (orElse (demandAt (unnamedOk s 0) 2 1)
-    (figuresFault (figuresOf prover k (runAt s 0)) 1))))))
-    (figuresOf prover k (runAt s 0))
+    unless
+    (orElse (demand (eqb (length s) runSize) 1)
+    (orElse (givenFault prover k (runAt runSize s 0) 1)
+    (demandAt (unnamedOk runSize s 0) 2 1)))
+    (figuresTold prover k (runAt runSize s 0) 1)
 
--- what the answers tell: the figures or the factor, or the paper's number and record
+-- what the answer tells: the figures, or the paper's number and record
 abbrev pub told : Worked → Told Sheet
 told (Figures figures) = done figures
-told (Refused why) = refused (numberOf why) (recordOf why)
-
-abbrev pub toldFactor : Outcome → Told ℕ
-toldFactor (Factor factor) = done factor
-toldFactor (NoFactor why) = refused (numberOf why) (recordOf why)
-
--- the run factor of the figures
-abbrev pub factorOnly : Told Sheet → Told ℕ
-factorOnly (done figures) = done (figures .factor)
-factorOnly (refused number at) = refused number at
+told (Refused refusal) = refused (numberOf refusal) (recordOf refusal)

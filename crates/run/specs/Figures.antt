@@ -2,11 +2,9 @@
 use mathlib.Core.List.{List, [], _∷_}
 use Prim.Native.Nat.{ℕ, _*_}
 use Rattle.exact.specs.Rounding.{rounded, _over_}
-use Rattle.factors.specs.Metal.{coefficientOf}
-use Rattle.factors.specs.Fractions.{cts, cps, cpl, combined}
+use Rattle.factors.specs.Rounded.{ctsAt, cpsAt, cplAt, combinedAt, correctedAt}
 use Rattle.factors.specs.declared.Prover.{Prover}
 use Rattle.run.specs.declared.Run.{Run}
-use Rattle.run.specs.declared.Side.{Side}
 use Rattle.run.specs.declared.Corrected.{Corrected}
 use Rattle.run.specs.declared.Figures.{Figures}
 
@@ -16,32 +14,26 @@ indicated pulses k = rounded 4 (pulses * 1000 over k)
 
 -- the steel at the prover
 unfoldable pub steelCts : Prover → Run → ℕ
-steelCts prover run = rounded 4 (cts (run .prover .temperature) (coefficientOf (prover .metal)))
+steelCts prover run = ctsAt 4 (prover .metal) (run .prover .temperature)
 
 unfoldable pub steelCps : Prover → Run → ℕ
-steelCps prover run = rounded 4 (cps (run .prover .pressure) (prover .pipe .diameter) (prover .pipe .modulus) (prover .pipe .wall))
+steelCps prover run = cpsAt 4 (prover .pipe) (run .prover .liquid .pressure)
 
--- the liquid at one side
-unfoldable pub liquidCpl : Side → ℕ
-liquidCpl side = rounded 4 (cpl (side .compressibility) (side .pressure))
-
--- a side's combined factor, and its volume by that factor: 'corrected prover volume = base volume × prover factor',
+-- a side's combined factor, and its volume by that factor, in 0.0001 barrel: 'corrected prover volume = base volume × prover factor',
 -- 'corrected meter volume = indicated volume × meter product'
 unfoldable pub correctedBy : ℕ → ℕ → List ℕ → Corrected
 correctedBy volume cpl factors =
-    record {
-      cpl = cpl;
-      factor = rounded 4 (combined 4 factors);
-      volume = rounded 4 (volume * rounded 4 (combined 4 factors) over 100000000);
-    }
+    record { cpl = cpl; factor = combinedAt 4 factors; volume = correctedAt 4 10000 volume (combinedAt 4 factors) }
 
 -- 2. and 3. 'Prover factor from CTS, CPS, CTL and CPL at the prover', of the base volume
 unfoldable pub atProver : Prover → Run → Corrected
-atProver prover run = correctedBy (prover .base) (liquidCpl (run .prover)) (steelCts prover run ∷ steelCps prover run ∷ run .prover .ctl ∷ liquidCpl (run .prover) ∷ [])
+atProver prover run =
+    correctedBy (prover .base) (cplAt 4 (run .prover .liquid))
+    (steelCts prover run ∷ steelCps prover run ∷ run .prover .ctl ∷ cplAt 4 (run .prover .liquid) ∷ [])
 
 -- 'meter factor product from CTL and CPL at the meter', of the indicated volume
 unfoldable pub atMeter : ℕ → Run → Corrected
-atMeter volume run = correctedBy volume (liquidCpl (run .meter)) (run .meter .ctl ∷ liquidCpl (run .meter) ∷ [])
+atMeter volume run = correctedBy volume (cplAt 4 (run .meter .liquid)) (run .meter .ctl ∷ cplAt 4 (run .meter .liquid) ∷ [])
 
 -- 4. 'Run factor = corrected prover volume ÷ corrected meter volume'
 unfoldable pub figuresFrom : Prover → Run → ℕ → Figures

@@ -3,20 +3,22 @@ use mathlib.Core.Path.{_∙_}
 use borrow.Author.Needs.{needs}
 use mir.Syntax.{w16}
 use mir.ValLaws.{toZ-ofZ}
-use Rattle.run.specs.Record.{runAt}
+use Rattle.run.specs.Record.{runFrom}
 use Rattle.run.proofs.read_fields.Statement.{statement}
 use Rattle.run.proofs.read_fields.Tie as tie
 
 returns : tie.Need-returns
-unfolding runAt
+unfolding runFrom
 returns c =
     let f = c .before .before .before .before in
     let p = f .before .before .before .before in
+    let warm = toZ-ofZ w16 (p .signed-at .result) (record { sfits = p .signed-at .ok }) ∙ p .signed-at .ensures in
+    let metered = toZ-ofZ w16 (f .signed-at2 .result) (record { sfits = f .signed-at2 .ok }) ∙ f .signed-at2 .ensures in
     λ i.
     record {
       pulses = c .long-at .ensures i;
-      prover = record { temperature = (toZ-ofZ w16 (p .signed-at .result) (record { sfits = p .signed-at .ok }) ∙ p .signed-at .ensures) i; pressure = f .before .before .before .word-at .ensures i; ctl = f .before .before .word-at2 .ensures i; compressibility = f .before .word-at3 .ensures i };
-      meter = record { temperature = (toZ-ofZ w16 (f .signed-at2 .result) (record { sfits = f .signed-at2 .ok }) ∙ f .signed-at2 .ensures) i; pressure = c .before .before .before .word-at4 .ensures i; ctl = c .before .before .word-at5 .ensures i; compressibility = c .before .word-at6 .ensures i };
+      prover = record { temperature = warm i; ctl = f .before .before .before .word-at .ensures i; liquid = record { pressure = f .before .before .word-at2 .ensures i; compressibility = f .before .word-at3 .ensures i } };
+      meter = record { temperature = metered i; ctl = c .before .before .before .word-at4 .ensures i; liquid = record { pressure = c .before .before .word-at5 .ensures i; compressibility = c .before .word-at6 .ensures i } };
     }
 
 pub read-fields-spec : {M : Type 1} → statement M
