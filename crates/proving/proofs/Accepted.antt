@@ -8,36 +8,32 @@ use native.Mathlib.Omega.{arith}
 use borrow.Author.Tests.{ne-eqb}
 use lib.Dec.{eqb}
 use lib.ListN.{length, take, drop, length-take, length-drop}
-use Rattle.refusals.specs.Told.{Told, done, refused, Fault, demand, orElse}
-use Rattle.refusals.proofs.Laws.{demand-holds, orElse-next, judged-fine, judged-fault, judged-was, judged-done, judged-refused}
+use Rattle.refusals.specs.Told.{Told, done, refused, Fault, fine, demand, unless}
+use Rattle.refusals.proofs.Laws.{demand-holds}
 use Rattle.factors.specs.declared.Prover.{Prover}
+use Rattle.group.specs.Repeatability.{nineUnless}
+use Rattle.octets.specs.Records.{recordsIn}
 use Rattle.report.specs.Judged.{reportOf}
 use Rattle.report.specs.declared.Report.{Report}
-use Rattle.proving.specs.Judging.{runsIn, inputFault}
-use Rattle.proving.specs.Job.{firstFive, groupFault, placeFound, foundOf, reportAt, jobOf, acceptedBy, acceptedOf}
+use Rattle.proving.specs.Judging.{inputFault}
+use Rattle.proving.specs.Job.{firstFive, foundOf, reportAt, jobOf, acceptedBy, acceptedOf}
+use Rattle.proving.proofs.Laws.{reached, refused-alike}
 use Rattle.proving.proofs.Facts.{FoundAt, found-at}
 
 module _ (request : ℕ) (prover : Prover) (k limit : ℕ) (s : List ℕ) (asked : request ≡ 0 → ⊥) where
-  front : (f : Fault) → orElse (demand (eqb 32 32) 14) (orElse (demand (not (eqb request 0)) 22) f) ≡ f
-  front f = orElse-next _ (demand-holds 22 (ap not (ne-eqb request 0 asked)))
-
-  abbrev sought : Fault
-  sought = orElse (inputFault prover k limit s) (groupFault (firstFive prover k limit s))
-
-  abbrev asking : Fault
-  asking = orElse (demand (eqb 32 32) 14) (orElse (demand (not (eqb request 0)) 22) sought)
-
-  abbrev report : Report
-  report = reportAt request prover k s (placeFound (firstFive prover k limit s))
+  -- past 14 and 22 the job is what follows from its input and its five
+  past : jobOf request prover k limit s 32 ≡ unless (inputFault prover k limit s) (nineUnless (firstFive prover k limit s) (reportAt request prover k s))
+  unfolding jobOf
+  past = ap (λ (f : Fault). unless f (unless (inputFault prover k limit s) (nineUnless (firstFive prover k limit s) (reportAt request prover k s)))) (demand-holds 22 (ap not (ne-eqb request 0 asked)))
 
   -- the number is the one that the job itself gives
   pub same-number : {number at : ℕ} → jobOf request prover k limit s 32 ≡ refused number at → foundOf prover k limit s ≡ refused number at
-  unfolding jobOf foundOf
-  same-number is = judged-fault _ (sym (front sought) ∙ judged-refused asking report is)
+  unfolding foundOf
+  same-number is = refused-alike (inputFault prover k limit s) (firstFive prover k limit s) (reportAt request prover k s) (λ at. at) (sym past ∙ is)
 
   pub empty-when-refused : {number at : ℕ} → jobOf request prover k limit s 32 ≡ refused number at → acceptedOf prover k limit s ≡ []
   unfolding acceptedOf
-  empty-when-refused is = ap (λ (t : Told ℕ). acceptedBy t s) (same-number is)
+  empty-when-refused is = ap (λ (t : Told ℕ). acceptedBy 32 t s) (same-number is)
 
   -- a job that is done found its five, and its report's first run is theirs
   pub record Begins (r : Report) : Type 0 where
@@ -46,13 +42,13 @@ module _ (request : ℕ) (prover : Prover) (k limit : ℕ) (s : List ℕ) (asked
     pub first : r .first ≡ place + 1
 
   pub done-begins : {r : Report} → jobOf request prover k limit s 32 ≡ done r → Begins r
-  unfolding jobOf foundOf reportAt reportOf
+  unfolding foundOf reportAt reportOf
   done-begins {r} is =
-      let clear = judged-was asking report is in
+      let d = reached (inputFault prover k limit s) (firstFive prover k limit s) (reportAt request prover k s) (sym past ∙ is) in
       record {
-        place = placeFound (firstFive prover k limit s);
-        found = judged-fine _ (sym (front sought) ∙ clear);
-        first = sym (ap (λ (q : Report). q .first) (judged-done asking report is));
+        place = d .place;
+        found = λ i. unless (d .clear i) (nineUnless (d .first i) (λ at. at));
+        first = sym (ap (λ (q : Report). q .first) (d .gives));
       }
 
   pub begins-at-first-run : {r : Report} → jobOf request prover k limit s 32 ≡ done r → acceptedOf prover k limit s ≡ take 160 (drop (32 * (r .first - 1)) s)
@@ -60,12 +56,12 @@ module _ (request : ℕ) (prover : Prover) (k limit : ℕ) (s : List ℕ) (asked
   begins-at-first-run {r} is =
       let b = done-begins is in
       let place : b .place ≡ r .first - 1 = omega (arith, b .first) in
-      ap (λ (t : Told ℕ). acceptedBy t s) (b .found) ∙ ap (λ (n : ℕ). take 160 (drop (32 * n) s)) place
+      ap (λ (t : Told ℕ). acceptedBy 32 t s) (b .found) ∙ ap (λ (n : ℕ). take 160 (drop (32 * n) s)) place
 
   -- so they are not empty
   pub whole-when-done : {r : Report} → jobOf request prover k limit s 32 ≡ done r → length (acceptedOf prover k limit s) ≡ 160
-  unfolding acceptedOf runsIn
+  unfolding acceptedOf recordsIn
   whole-when-done is =
       let b = done-begins is in
       let f : FoundAt prover k limit s (b .place) = found-at prover k limit s (b .found) in
-      ap (λ (t : Told ℕ). length (acceptedBy t s)) (b .found) ∙ simp (length-take, length-drop) (omega (arith, f .inside, f .settled .whole))
+      ap (λ (t : Told ℕ). length (acceptedBy 32 t s)) (b .found) ∙ simp (length-take, length-drop) (omega (arith, f .inside, f .settled .whole))

@@ -1,42 +1,41 @@
--- A run's answer as a fault and a factor, arrays filled from the front, and the order of judging.
-use mathlib.Core.Path.{_≡_, refl, sym, ap, _∙_}
-use mathlib.Core.Logic.{by-cases}
+-- What follows from a five that is found, or that is not; and a run's answer, once its settings and fields are judged.
+use mathlib.Core.Path.{_≡_, refl, ap, _∙_}
 use mathlib.Core.Bool.{true}
 use mathlib.Core.List.{List}
-use Prim.Native.Nat.{ℕ, zero, suc, _+_, _*_, _<_}
-use native.Mathlib.Decide.{decLt}
-use native.Mathlib.Omega.{arith}
-use lib.ListN.{length, getD, set}
-use lib.Seq.{getD-set-same, getD-set-other}
-use Rattle.refusals.specs.Told.{done, refused, Fault, fine, fault, judged}
-use Rattle.refusals.proofs.Laws.{done-one, refused-number, refused-record, demand-holds, demandAt-holds, orElse-next}
+use mathlib.Core.Option.{Option, none, some}
+use Prim.Native.Nat.{ℕ, _+_}
+use Rattle.refusals.specs.Told.{done, refused, Fault, fine, fault, unless, judged}
+use Rattle.refusals.proofs.Laws.{done-one, refused-number, refused-record, refused-not-done, demand-holds, demandAt-holds, orElse-next}
 use Rattle.ranges.specs.Table.{kFactorOk}
+use Rattle.factors.specs.Prover.{proverOk}
 use Rattle.factors.specs.declared.Prover.{Prover}
-use Rattle.run.specs.Record.{runAt, fieldsOk}
+use Rattle.group.specs.Repeatability.{nineUnless}
+use Rattle.run.specs.Record.{runAt, runOk}
 use Rattle.run.specs.Figures.{figuresOf}
-use Rattle.run.specs.Answers.{proverOk, workedOf, factorOnly}
-use Rattle.run.specs.declared.Figures.{Figures}
+use Rattle.run.specs.Answers.{givenFault, figuresTold, workedOf}
 use Rattle.proving.specs.Judging.{runFault}
-use Rattle.proving.specs.Job.{factorAt}
 
--- a run whose settings, K and fields were judged answers with its own 7 or 8, or with its factor
-module _ (prover : Prover) (k : ℕ) (s : List ℕ) (i : ℕ) (p : proverOk prover ≡ true) (kok : kFactorOk k ≡ true) (fields : fieldsOk (runAt s (32 * i)) ≡ true) where
-  pub run-judged : workedOf prover k (runAt s (32 * i)) (i + 1) ≡ judged (runFault prover k s i) (figuresOf prover k (runAt s (32 * i)))
-  unfolding workedOf runFault
-  run-judged = ap (λ (f : Fault). judged f (figuresOf prover k (runAt s (32 * i)))) (orElse-next _ (demand-holds 3 p) ∙ orElse-next _ (demand-holds 4 kok) ∙ orElse-next _ (demandAt-holds 5 (i + 1) fields))
+module _ {A : Type 0} where
+  -- a result shows that judging found no fault, the place of the five, and that the result follows from it
+  pub record Reached (f : Fault) (o : Option ℕ) (follows : ℕ → A) (x : A) : Type 0 where
+    pub clear : f ≡ fine
+    pub place : ℕ
+    pub first : o ≡ some place
+    pub gives : follows place ≡ x
 
-pub factor-of : (prover : Prover) (k : ℕ) (s : List ℕ) (i : ℕ) → figuresOf prover k (runAt s (32 * i)) .factor ≡ factorAt prover k s i
-unfolding factorAt
-factor-of prover k s i = refl
+  pub reached : (f : Fault) (o : Option ℕ) (follows : ℕ → A) {x : A} → unless f (nineUnless o follows) ≡ done x → Reached f o follows x
+  reached fine none follows is = absurd (refused-not-done is)
+  reached fine (some at) follows is = record { clear = refl; place = at; first = refl; gives = done-one is }
+  reached (fault number at) o follows is = absurd (refused-not-done is)
 
-pub record HasFactor (f : Fault) (figures : Figures) (x : ℕ) : Type 0 where
-  pub none : f ≡ fine
-  pub is : x ≡ figures .factor
+-- a five that is not found is refused alike, whatever was to follow from it
+pub refused-alike : {A B : Type 0} (f : Fault) (o : Option ℕ) (follows : ℕ → A) (also : ℕ → B) {number at : ℕ} → unless f (nineUnless o follows) ≡ refused number at → unless f (nineUnless o also) ≡ refused number at
+refused-alike fine none follows also is = λ i. refused (refused-number is i) (refused-record is i)
+refused-alike fine (some at) follows also is = cc
+refused-alike (fault number at) o follows also is = λ i. refused (refused-number is i) (refused-record is i)
 
-pub factor-told : (f : Fault) (figures : Figures) {x : ℕ} → done x ≡ factorOnly (judged f figures) → HasFactor f figures x
-factor-told fine figures is = record { none = refl; is = done-one is }
-factor-told (fault number at) figures is = let z : _≡_ {A = ℕ} 0 1 = cc in absurd (omega arith)
-
-pub refusal-told : (f : Fault) (figures : Figures) {number at : ℕ} → refused number at ≡ factorOnly (judged f figures) → f ≡ fault number at
-refusal-told fine figures is = cc
-refusal-told (fault number at) figures is = λ i. fault (refused-number (sym is) i) (refused-record (sym is) i)
+-- a run whose settings, K and fields were judged answers with its own 7 or 8, or with its figures
+pub run-judged : (prover : Prover) (k : ℕ) (s : List ℕ) (i : ℕ) → proverOk prover ≡ true → kFactorOk k ≡ true → runOk (runAt 32 s i) ≡ true → workedOf prover k (runAt 32 s i) (i + 1) ≡ judged (runFault prover k s i) (figuresOf prover k (runAt 32 s i))
+unfolding givenFault figuresTold workedOf runFault
+run-judged prover k s i p kok fields =
+    ap (λ (f : Fault). unless f (figuresTold prover k (runAt 32 s i) (i + 1))) (orElse-next _ (demand-holds 3 p) ∙ orElse-next _ (demand-holds 4 kok) ∙ demandAt-holds 5 (i + 1) fields)

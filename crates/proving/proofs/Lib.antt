@@ -1,4 +1,3 @@
 pub mod Laws
 pub mod Facts
 pub mod Accepted
-pub mod Figures

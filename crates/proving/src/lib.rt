@@ -1,30 +1,27 @@
 // Proving by pipe prover (01, 'Proving, by pipe prover'): the job, its report, and the accepted runs.
 ghost use mathlib.Core.Path.{_≡_};
 ghost use mathlib.Core.Bool.{true};
-ghost use Prim.Native.Nat.{ℕ, _+_, _*_, _^_, _<_, _≤_};
+ghost use Prim.Native.Nat.{ℕ, _+_, _^_, _<_, _≤_};
 ghost use lib.ListN.{length, getD};
 ghost use Rattle.octets.specs.FirstToLast.{scan};
 ghost use Rattle.ranges.specs.Table.{kFactorOk};
-ghost use Rattle.refusals.specs.Told.{fine, done, judged};
-ghost use Rattle.group.specs.Repeatability.{firstGroup};
-ghost use Rattle.report.specs.Judged.{told, leftBy};
-ghost use Rattle.run.specs.Record.{runAt, fieldsOk};
-ghost use Rattle.run.specs.Answers.{proverOk};
+ghost use Rattle.refusals.specs.Told.{fine, done, leftBy};
+ghost use Rattle.refusals.specs.Verdict.{faultOf};
+ghost use Rattle.factors.specs.Prover.{proverOk};
+ghost use Rattle.group.specs.Repeatability.{firstGroup, nineUnless};
+ghost use Rattle.report.specs.Record.{bytesOfReport};
+ghost use Rattle.report.specs.Judged.{told};
+ghost use Rattle.run.specs.Record.{runSize, runAt, runOk};
 ghost use Rattle.proving.specs.Judging.{runsIn, settingsFault, recordFault, runFault, inputFault};
-ghost use Rattle.proving.specs.Job.{factorAt, groupFault, placeFound, foundOf, fiveAt, jobOf, acceptedOf};
-ghost use Rattle.proving.specs.Answers.{toldFault, faultOf, toldFound};
+ghost use Rattle.proving.specs.Job.{factorAt, foundOf, fiveAt, jobOf, acceptedOf};
+ghost use Rattle.proving.specs.Answers.{refusedIn, toldFound};
 use factors::Prover;
 use group::Group;
 use refusals::Refusal;
+use refusals::Verdict;
 use report::Answer;
 use report::Factors;
-use run::Outcome;
-
-// What judging finds.
-enum Verdict {
-    Fine,
-    Refused(Refusal),
-}
+use run::Worked;
 
 // The run factors of a job, of which the first so many count, and what judging found.
 struct Runs {
@@ -45,24 +42,27 @@ struct Five {
 
 // 5, then 2, of one record, counted from 0.
 fn judge_record(records: &[u8], i: usize) -> Verdict
-    requires { ⌜ (i < 20) × (32 * i ≤ length (now records)) ⌝ }
-    ensures { λ r. ⌜ toldFault r ≡ recordFault (now (records .entry)) i ⌝ }
+    requires { ⌜ i < 20 ⌝ }
+    ensures { λ r. ⌜ faultOf r ≡ recordFault (now (records .entry)) i ⌝ }
 {
     let at = 32 * i;
     let number = (i + 1) as u16;
-    if run::is_run(run::decode(records, at)) {
-        if octets::are_zero(records, at + 20, at + 32) {
-            return Verdict::Fine;
-        }
-        return Verdict::Refused(Refusal::UnnamedByte(number));
-    }
-    Verdict::Refused(Refusal::RecordField(number))
+    refusals::or_else(
+        refusals::demand(
+            run::is_run(run::decode(records, i)),
+            Refusal::RecordField(number),
+        ),
+        refusals::demand(
+            octets::are_zero(records, at + 20, at + 32),
+            Refusal::UnnamedByte(number),
+        ),
+    )
 }
 
 // The records, first to last.
 fn judge_records(records: &[u8], count: usize) -> Verdict
-    requires { ⌜ (count ≤ 20) × (32 * count ≤ length (now records)) ⌝ }
-    ensures { λ r. ⌜ toldFault r ≡ scan (recordFault (now (records .entry))) count 0 ⌝ }
+    requires { ⌜ count ≤ 20 ⌝ }
+    ensures { λ r. ⌜ faultOf r ≡ scan (recordFault (now (records .entry))) count 0 ⌝ }
 {
     let mut i: usize = 0;
     while i < count {
@@ -77,21 +77,21 @@ fn judge_records(records: &[u8], count: usize) -> Verdict
 
 // The runs' factors, first to last. A run that has no factor ends the job with that run's refusal.
 fn work_out_runs(prover: Prover, k: u32, records: &[u8], count: usize) -> Runs
-    requires { ⌜ (proverOk prover ≡ true) × (kFactorOk k ≡ true) × (count ≤ 20) × (32 * count ≤ length (now records)) × ((i : ℕ) → i < count → fieldsOk (runAt (now records) (32 * i)) ≡ true) ⌝ }
-    ensures { λ r. ⌜ (toldFault (r .verdict) ≡ scan (runFault prover k (now (records .entry))) count 0) × (length (r .factors) ≡ 20) × (toldFault (r .verdict) ≡ fine → (i : ℕ) → i < count → getD (r .factors) i 0 ≡ factorAt prover k (now (records .entry)) i) ⌝ }
+    requires { ⌜ (proverOk prover ≡ true) × (kFactorOk k ≡ true) × (count ≤ 20) × ((i : ℕ) → i < count → runOk (runAt runSize (now records) i) ≡ true) ⌝ }
+    ensures { λ r. ⌜ (faultOf (r .verdict) ≡ scan (runFault prover k (now (records .entry))) count 0) × (length (r .factors) ≡ 20) × (faultOf (r .verdict) ≡ fine → (i : ℕ) → i < count → getD (r .factors) i 0 ≡ factorAt prover k (now (records .entry)) i) ⌝ }
 {
     let mut values = [0u64; 20];
     let mut i: usize = 0;
     while i < count {
-        let run = run::decode(records, 32 * i);
-        let outcome = run::find_factor(prover, k, run, (i + 1) as u16);
-        let Outcome::Factor(factor) = outcome else {
+        let run = run::decode(records, i);
+        let worked = run::work_out(prover, k, run, (i + 1) as u16);
+        let Worked::Figures(figures) = worked else {
             return Runs {
                 factors: values,
-                verdict: refuse(outcome),
+                verdict: refuse(worked),
             };
         };
-        values[i] = factor;
+        values[i] = figures.factor;
         i += 1;
     }
     Runs {
@@ -101,36 +101,37 @@ fn work_out_runs(prover: Prover, k: u32, records: &[u8], count: usize) -> Runs
 }
 
 // The refusal of a run that has no factor.
-fn refuse(outcome: Outcome) -> Verdict
-    ensures { λ r. ⌜ toldFault r ≡ faultOf outcome ⌝ }
+fn refuse(worked: Worked) -> Verdict
+    ensures { λ r. ⌜ faultOf r ≡ refusedIn worked ⌝ }
 {
-    match outcome {
-        Outcome::Factor(_) => Verdict::Fine,
-        Outcome::Refused(refusal) => Verdict::Refused(refusal),
+    match worked {
+        Worked::Figures(_) => Verdict::Fine,
+        Worked::Refused(refusal) => Verdict::Refused(refusal),
     }
 }
 
-// 1, 3, 4: the size of what is lent, the prover's settings, K and the limit.
+// 1, 3, 4 and 4: the size of what is lent, the prover's settings, K and the limit.
 fn judge_settings(prover: Prover, k: u32, limit: u16, size: usize) -> Verdict
-    ensures { λ r. ⌜ toldFault r ≡ settingsFault prover k limit size ⌝ }
+    ensures { λ r. ⌜ faultOf r ≡ settingsFault prover k limit size ⌝ }
 {
-    if (size % 32 == 0) & ranges::is_within((size / 32) as u64, 5, 20) {
-        if run::is_prover(prover) {
-            if ranges::is_within(k as u64, 1, 1000000000)
-                & ranges::is_within(limit as u64, 1, 100)
-            {
-                return Verdict::Fine;
-            }
-            return Verdict::Refused(Refusal::KFactorOrLimit);
-        }
-        return Verdict::Refused(Refusal::ProverSetting);
-    }
-    Verdict::Refused(Refusal::Records)
+    refusals::or_else(
+        refusals::demand(
+            (size % 32 == 0) & ranges::are_runs((size / 32) as u64),
+            Refusal::Records,
+        ),
+        refusals::or_else(
+            refusals::demand(factors::is_prover(prover), Refusal::ProverSetting),
+            refusals::or_else(
+                refusals::demand(ranges::is_k_factor(k as u64), Refusal::KFactorOrLimit),
+                refusals::demand(ranges::is_limit(limit as u64), Refusal::KFactorOrLimit),
+            ),
+        ),
+    )
 }
 
 // All that is judged before a group is looked for.
 fn judge_input(prover: Prover, k: u32, limit: u16, records: &[u8]) -> Runs
-    ensures { λ r. ⌜ (toldFault (r .verdict) ≡ inputFault prover k limit (now (records .entry))) × (length (r .factors) ≡ 20) × (toldFault (r .verdict) ≡ fine → (i : ℕ) → i < runsIn (now (records .entry)) → getD (r .factors) i 0 ≡ factorAt prover k (now (records .entry)) i) ⌝ }
+    ensures { λ r. ⌜ (faultOf (r .verdict) ≡ inputFault prover k limit (now (records .entry))) × (length (r .factors) ≡ 20) × (faultOf (r .verdict) ≡ fine → (i : ℕ) → i < runsIn (now (records .entry)) → getD (r .factors) i 0 ≡ factorAt prover k (now (records .entry)) i) ⌝ }
 {
     let verdict = judge_settings(prover, k, limit, records.len());
     let Verdict::Fine = verdict else {
@@ -152,7 +153,7 @@ fn judge_input(prover: Prover, k: u32, limit: u16, records: &[u8]) -> Runs
 
 // The first qualifying five, or 9.
 fn seek(values: &[u64], limit: u16) -> Found
-    ensures { λ r. ⌜ toldFound r ≡ judged (groupFault (firstGroup limit 5 (now (values .entry)))) (placeFound (firstGroup limit 5 (now (values .entry)))) ⌝ }
+    ensures { λ r. ⌜ toldFound r ≡ nineUnless (firstGroup limit 5 (now (values .entry))) (λ at. at) ⌝ }
 {
     let group = group::first_group(values, 5, limit as u64);
     match group {
@@ -206,23 +207,26 @@ pub fn prove(
     buffer: &mut [u8],
 ) -> Answer
     ensures answer { λ r. ⌜ told r ≡ jobOf request prover k limit (now (records .entry)) (length (now (buffer .entry))) ⌝ }
-    ensures left { λ _. ⌜ now (buffer .exit) ≡ leftBy (jobOf request prover k limit (now (records .entry)) (length (now (buffer .entry)))) (now (buffer .entry)) ⌝ }
+    ensures left { λ _. ⌜ now (buffer .exit) ≡ leftBy (jobOf request prover k limit (now (records .entry)) (length (now (buffer .entry)))) bytesOfReport (now (buffer .entry)) ⌝ }
 {
-    if buffer.len() != 32 {
-        return Answer::Refused(Refusal::ReportBuffer);
-    }
-    if request == 0 {
-        return Answer::Refused(Refusal::NumberZero);
-    }
-    let five = find_five(prover, k, limit, records);
-    let found = five.found;
-    match found {
-        Found::At(at) => {
-            let values = five.factors;
-            let runs = (records.len() / 32) as u8;
-            report::write(request, runs, (at + 1) as u8, take_five(values, at), buffer)
+    let verdict = refusals::or_else(
+        refusals::demand(buffer.len() == 32, Refusal::ReportBuffer),
+        refusals::demand(request != 0, Refusal::NumberZero),
+    );
+    match verdict {
+        Verdict::Fine => {
+            let five = find_five(prover, k, limit, records);
+            let found = five.found;
+            match found {
+                Found::At(at) => {
+                    let values = five.factors;
+                    let runs = (records.len() / 32) as u8;
+                    report::write(request, runs, (at + 1) as u8, take_five(values, at), buffer)
+                }
+                Found::Refused(refusal) => Answer::Refused(refusal),
+            }
         }
-        Found::Refused(refusal) => Answer::Refused(refusal),
+        Verdict::Refused(refusal) => Answer::Refused(refusal),
     }
 }
 

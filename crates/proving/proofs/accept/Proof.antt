@@ -9,7 +9,7 @@ use Rattle.refusals.specs.Told.{Told, done}
 use Rattle.proving.proofs.Facts.{FoundAt, found-at}
 use Rattle.proving.specs.Answers.{toldFound}
 use Rattle.proving.specs.Job.{foundOf, acceptedBy, acceptedOf}
-use Rattle.proving.specs.Judging.{runsIn}
+use Rattle.octets.specs.Records.{recordsIn}
 use Rattle.proving.proofs.accept.Statement.{statement}
 use Rattle.proving.proofs.accept.Tie as tie
 
@@ -23,35 +23,24 @@ is : (c : tie.After-known-told) → foundOf (begin c .args .prover) (begin c .ar
 is c = sym (c .before .before .before .find-five .ensures .0) ∙ ap toldFound (c .before .found .given .1)
 
 room : (c : tie.After-known-told) → 32 * place c + 160 ≤ length (now (begin c .args .records))
-unfolding runsIn
+unfolding recordsIn
 room c = let f : FoundAt _ _ _ (now (begin c .args .records)) (place c) = found-at _ _ _ _ (is c) in omega (arith, f .inside, f .settled .whole)
-
-mul-from : tie.Need-mul-from
-mul-from c = omega (arith, room c)
-
-add-end : tie.Need-add-end
-add-end c = omega (arith, room c)
-
-part-result-end : tie.Need-part-result-end
-part-result-end c = omega (arith, room c)
-
-enum-told : tie.Need-enum-told
-enum-told c = search needs
 
 returns : tie.Need-returns
 unfolding acceptedOf
 returns c =
     let d = c .before in
     let size : 32 * place d + 160 - 32 * place d ≡ 160 = omega arith in
-    ap (λ (n : ℕ). take n (drop (32 * place d) (now (begin d .args .records)))) size ∙ sym (ap (λ (t : Told ℕ). acceptedBy t (now (begin d .args .records))) (is d))
+    ap (λ (n : ℕ). take n (drop (32 * place d) (now (begin d .args .records)))) size ∙ sym (ap (λ (t : Told ℕ). acceptedBy 32 t (now (begin d .args .records))) (is d))
 
 returns-2 : tie.Need-returns-2
 unfolding acceptedOf
 returns-2 c =
     let f = c .before .before .before in
-    sym (ap (λ (t : Told ℕ). acceptedBy t (now (f .before .before .args .records))) (sym (f .find-five .ensures .0) ∙ ap toldFound (c .before .enum-told .given .1)))
+    sym (ap (λ (t : Told ℕ). acceptedBy 32 t (now (f .before .before .args .records))) (sym (f .find-five .ensures .0) ∙ ap toldFound (c .before .enum-told .given .1)))
 
 pub accept-spec : {M : Type 1} → statement M
 accept-spec =
     tie.close
-    (tie.spec (search needs) (search needs) mul-from add-end (search needs) (search needs) part-result-end enum-told (search needs) returns returns-2)
+    (tie.spec (search needs) (search needs) (λ c. omega (arith, room c)) (λ c. omega (arith, room c)) (search needs) (search needs)
+    (λ c. omega (arith, room c)) (λ c. search needs) (search needs) returns returns-2)

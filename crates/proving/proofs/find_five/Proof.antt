@@ -6,32 +6,36 @@ use native.Mathlib.Omega.{arith}
 use borrow.Author.Needs.{needs}
 use denote.Ref.{now}
 use lib.ListN.{length, take, length-take}
-use Rattle.refusals.proofs.Laws.{orElse-next, orElse-first, orElse-fine-first, judged-fault, refused-not-done}
-use Rattle.refusals.specs.Told.{Fault, fine, judged}
-use Rattle.group.specs.Repeatability.{firstGroup}
-use Rattle.proving.proofs.Facts.{Settings, settings, factors-listed}
-use Rattle.proving.specs.Answers.{toldFault}
-use Rattle.proving.specs.Job.{firstFive, factorsOf, groupFault, placeFound, foundOf}
-use Rattle.proving.specs.Judging.{runsIn, settingsFault, inputFault}
+use Rattle.refusals.proofs.Laws.{orElse-fine-first, refused-not-done}
+use Rattle.refusals.specs.Told.{Fault, fine, unless}
+use Rattle.refusals.specs.Verdict.{faultOf}
+use Rattle.octets.specs.Records.{recordsIn}
+use Rattle.group.specs.Repeatability.{firstGroup, nineUnless}
+use Rattle.group.proofs.Listed.{filled-listed}
+use Rattle.proving.proofs.Facts.{Settings, settings}
+use Rattle.proving.specs.Job.{factorAt, factorsOf, firstFive, foundOf}
+use Rattle.proving.specs.Judging.{settingsFault, inputFault}
 use Rattle.proving.proofs.find_five.Statement.{statement}
 use Rattle.proving.proofs.find_five.Tie as tie
 
-enum-told : tie.Need-enum-told
-enum-told c = search needs
+abbrev start : tie.After-enum-told → tie.Start
+start c = c .before .before .before .before .before
 
-abbrev begin : tie.After-enum-told → tie.Start
-begin c = c .before .before .before .before .before
+abbrev records : tie.After-enum-told → List ℕ
+records c = now (start c .args .records)
 
-input-fine : (c : tie.After-enum-told) → inputFault (begin c .args .prover) (begin c .args .k) (begin c .args .limit) (now (begin c .args .records)) ≡ fine
-input-fine c = sym (c .before .before .before .judge-input .ensures .0) ∙ ap toldFault (c .enum-told .given .1)
+input-fine : (c : tie.After-enum-told) → inputFault (start c .args .prover) (start c .args .k) (start c .args .limit) (records c) ≡ fine
+input-fine c = sym (c .before .before .before .judge-input .ensures .0) ∙ ap faultOf (c .enum-told .given .1)
 
-settled : (c : tie.After-enum-told) → Settings (begin c .args .prover) (begin c .args .k) (begin c .args .limit) (length (now (begin c .args .records)))
+settled : (c : tie.After-enum-told) → Settings (start c .args .prover) (start c .args .k) (length (records c))
 unfolding inputFault
-settled c = settings _ _ _ _ (orElse-fine-first (settingsFault (begin c .args .prover) (begin c .args .k) (begin c .args .limit) (length (now (begin c .args .records)))) _ (input-fine c))
+settled c = settings _ _ _ _ (orElse-fine-first (settingsFault (start c .args .prover) (start c .args .k) (start c .args .limit) (length (records c))) _ (input-fine c))
 
-listed : (c : tie.After-enum-told) → take (length (now (begin c .args .records)) / 32) (c .before .before .before .judge-input .result .factors) ≡ factorsOf (begin c .args .prover) (begin c .args .k) (now (begin c .args .records))
-unfolding runsIn
-listed c = let j = c .before .before .before .judge-input in factors-listed _ _ _ (j .result .factors) (omega (arith, settled c .most, j .ensures .1)) (j .ensures .2 (ap toldFault (c .enum-told .given .1)))
+listed : (c : tie.After-enum-told) → take (length (records c) / 32) (c .before .before .before .judge-input .result .factors) ≡ factorsOf (start c .args .prover) (start c .args .k) (records c)
+unfolding recordsIn factorsOf
+listed c =
+    let j = c .before .before .before .judge-input in
+    filled-listed (factorAt (start c .args .prover) (start c .args .k) (records c)) (j .result .factors) (length (records c) / 32) (omega (arith, settled c .most, j .ensures .1)) (j .ensures .2 (ap faultOf (c .enum-told .given .1)))
 
 array-share-prefix-factors : tie.Need-array-share-prefix-factors
 array-share-prefix-factors c = omega (arith, settled c .most, c .before .before .before .judge-input .ensures .1)
@@ -43,23 +47,22 @@ returns : tie.Need-returns
 unfolding foundOf firstFive
 returns c =
     let d = c .before .before in
+    let a = start d .args in
     let j = d .before .before .before .judge-input in
-    let s = now (begin d .args .records) in (
-      c .seek .ensures
-          ∙ ap (λ (xs : List ℕ). judged (groupFault (firstGroup (begin d .args .limit) 5 xs)) (placeFound (firstGroup (begin d .args .limit) 5 xs))) (listed d)
-          ∙ sym (ap (λ (f : Fault). judged f (placeFound (firstFive (begin d .args .prover) (begin d .args .k) (begin d .args .limit) s))) (orElse-next _ (input-fine d))),
-      j .ensures .1,
-      λ at is. j .ensures .2 (ap toldFault (d .enum-told .given .1)),
-    )
+    let sought = c .seek .ensures ∙ ap (λ (xs : List ℕ). nineUnless (firstGroup (a .limit) 5 xs) (λ (at : ℕ). at)) (listed d) in
+    let clear = ap (λ (f : Fault). unless f (nineUnless (firstFive (a .prover) (a .k) (a .limit) (records d)) (λ (at : ℕ). at))) (input-fine d) in
+    (sought ∙ sym clear, j .ensures .1, λ at is. j .ensures .2 (ap faultOf (d .enum-told .given .1)))
 
 returns-2 : tie.Need-returns-2
 unfolding foundOf
 returns-2 c =
-    let j = c .before .before .before .before .judge-input in
-    let is = sym (j .ensures .0) ∙ ap toldFault (c .before .verdict .given .1) in
-    (sym (judged-fault _ (orElse-first _ is)), j .ensures .1, λ at told. absurd (refused-not-done told))
+    let v = c .before in
+    let j = v .before .before .before .judge-input in
+    let a = v .before .before .before .before .before .args in
+    let at-fault = ap (λ (f : Fault). unless f (nineUnless (firstFive (a .prover) (a .k) (a .limit) (now (a .records))) (λ (at : ℕ). at))) (sym (j .ensures .0) ∙ ap faultOf (v .verdict .given .1)) in
+    (sym at-fault, j .ensures .1, λ at told. absurd (refused-not-done told))
 
 pub find-five-spec : {M : Type 1} → statement M
 find-five-spec =
     tie.close
-    (tie.spec (search needs) enum-told array-share-prefix-factors slice-aggregate-seek (search needs) (search needs) returns returns-2)
+    (tie.spec (search needs) (λ c. search needs) array-share-prefix-factors slice-aggregate-seek (search needs) (search needs) returns returns-2)

@@ -9,8 +9,9 @@ use Rattle.refusals.proofs.Laws.{orElse-next, orElse-first, fault-not-fine}
 use Rattle.refusals.specs.Told.{fine}
 use Rattle.octets.specs.FirstToLast.{scan}
 use Rattle.proving.proofs.Facts.{Settings, settings, fields-fit}
-use Rattle.proving.specs.Answers.{toldFault}
-use Rattle.proving.specs.Judging.{runsIn, settingsFault, recordFault, inputFault}
+use Rattle.octets.specs.Records.{recordsIn}
+use Rattle.refusals.specs.Verdict.{faultOf}
+use Rattle.proving.specs.Judging.{settingsFault, recordFault, inputFault}
 use Rattle.proving.proofs.judge_input.Statement.{statement}
 use Rattle.proving.proofs.judge_input.Tie as tie
 
@@ -20,36 +21,36 @@ enum-told c = search needs
 returns : tie.Need-returns
 unfolding inputFault
 returns c =
-    let is = ap toldFault (c .enum-told2 .given .1) in
+    let is = ap faultOf (c .enum-told2 .given .1) in
     (is ∙ sym (orElse-first _ (sym (c .before .before .judge-settings .ensures) ∙ is)), refl, λ clear. absurd (fault-not-fine (sym is ∙ clear)))
 
 abbrev begin : tie.After-enum-told → tie.Start
 begin c = c .before .before .before .before
 
 settings-fine : (c : tie.After-enum-told) → settingsFault (begin c .args .prover) (begin c .args .k) (begin c .args .limit) (length (now (begin c .args .records))) ≡ fine
-settings-fine c = sym (c .before .before .judge-settings .ensures) ∙ ap toldFault (c .enum-told .given .1)
+settings-fine c = sym (c .before .before .judge-settings .ensures) ∙ ap faultOf (c .enum-told .given .1)
 
-settled : (c : tie.After-enum-told) → Settings (begin c .args .prover) (begin c .args .k) (begin c .args .limit) (length (now (begin c .args .records)))
+settled : (c : tie.After-enum-told) → Settings (begin c .args .prover) (begin c .args .k) (length (now (begin c .args .records)))
 settled c = settings _ _ _ _ (settings-fine c)
 
 records-fine : (c : tie.After-enum-told3) → scan (recordFault (now (begin (c .before .before .before) .args .records))) (length (now (begin (c .before .before .before) .args .records)) / 32) 0 ≡ fine
-records-fine c = sym (c .before .before .judge-records .ensures) ∙ ap toldFault (c .enum-told3 .given .1)
+records-fine c = sym (c .before .before .judge-records .ensures) ∙ ap faultOf (c .enum-told3 .given .1)
 
 judge-records-requires : tie.Need-judge-records-requires
-judge-records-requires c κs = let h = settled c in (h .most, omega (arith, h .whole))
+judge-records-requires c κs = settled c .most
 
 returns-2 : tie.Need-returns-2
-unfolding inputFault runsIn
+unfolding inputFault recordsIn
 returns-2 c =
-    let is = ap toldFault (c .enum-told4 .given .1) in
+    let is = ap faultOf (c .enum-told4 .given .1) in
     let d = c .before .before .before in
     (is ∙ sym (orElse-next _ (settings-fine d) ∙ orElse-first _ (sym (c .before .before .judge-records .ensures) ∙ is)), refl, λ clear. absurd (fault-not-fine (sym is ∙ clear)))
 
 work-out-runs-requires : tie.Need-work-out-runs-requires
-work-out-runs-requires c κs = let h = settled (c .before .before .before) in (h .proverFits, h .kFits, h .most, omega (arith, h .whole), fields-fit (now (c .before .before .before .before .before .before .before .args .records)) _ (records-fine c))
+work-out-runs-requires c κs = let h = settled (c .before .before .before) in (h .proverFits, h .kFits, h .most, fields-fit (now (c .before .before .before .before .before .before .before .args .records)) _ (records-fine c))
 
 returns-3 : tie.Need-returns-3
-unfolding inputFault runsIn
+unfolding inputFault recordsIn
 returns-3 c =
     let d = c .before in
     (c .work-out-runs .ensures .0 ∙ sym (orElse-next _ (settings-fine (d .before .before .before)) ∙ orElse-next _ (records-fine d)), c .work-out-runs .ensures .1, c .work-out-runs .ensures .2)

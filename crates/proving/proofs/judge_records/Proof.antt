@@ -7,7 +7,7 @@ use denote.Ref.{now}
 use Rattle.octets.specs.FirstToLast.{scan}
 use Rattle.octets.proofs.FirstToLast.{faults, start, next, scan-hit, done}
 use Rattle.proving.specs.Judging.{recordFault}
-use Rattle.proving.specs.Answers.{toldFault}
+use Rattle.refusals.specs.Verdict.{faultOf}
 use Rattle.proving.proofs.judge_records.Statement.{statement}
 use Rattle.proving.proofs.judge_records.Tie as tie
 
@@ -27,14 +27,14 @@ returns : tie.Need-returns Inv-loop μ-loop
 returns c =
     let l = c .before .before .before .before .loop in
     let a = c .before .before .before .before .before .before .args in
-    let is = ap toldFault (c .enum-told2 .given .1) in
+    let is = ap faultOf (c .enum-told2 .given .1) in
     is ∙ sym (scan-hit (recordFault (now (a .records))) (a .count) (l .i) (omega arith) (sym (c .before .before .judge-record .ensures) ∙ is) (l .inv .1))
 
 loop-again : tie.Need-loop-again Inv-loop μ-loop
 loop-again c =
     let l = c .before .before .before .before .loop in
     let a = c .before .before .before .before .before .before .args in
-    (omega arith, next faults (recordFault (now (a .records))) (a .count) (l .i) (omega arith) (sym (c .before .before .judge-record .ensures) ∙ ap toldFault (c .enum-told .given .1)) (l .inv .1))
+    (omega arith, next faults (recordFault (now (a .records))) (a .count) (l .i) (omega arith) (sym (c .before .before .judge-record .ensures) ∙ ap faultOf (c .enum-told .given .1)) (l .inv .1))
 
 returns-2 : tie.Need-returns-2 Inv-loop μ-loop
 returns-2 c =

@@ -3,20 +3,15 @@ use mathlib.Core.Option.{Option}
 use mathlib.Core.Path.{ap, sym, _∙_}
 use Prim.Native.Nat.{ℕ}
 use borrow.Author.Needs.{needs}
-use Rattle.refusals.specs.Told.{judged}
-use Rattle.group.specs.Repeatability.{placeOf}
-use Rattle.proving.specs.Job.{groupFault, placeFound}
+use Rattle.group.specs.Repeatability.{placeOf, nineUnless}
 use Rattle.proving.proofs.seek.Statement.{statement}
 use Rattle.proving.proofs.seek.Tie as tie
 
-enum-told : tie.Need-enum-told
-enum-told c = search needs
-
 returns : tie.Need-returns
-returns c = sym (ap (λ (o : Option ℕ). judged (groupFault o) (placeFound o)) (sym (c .before .before .before .first-group .ensures) ∙ ap placeOf (c .before .group .given .1)))
+returns c = sym (ap (λ (o : Option ℕ). nineUnless o (λ (at : ℕ). at)) (sym (c .before .before .before .first-group .ensures) ∙ ap placeOf (c .before .group .given .1)))
 
 returns-2 : tie.Need-returns-2
-returns-2 c = sym (ap (λ (o : Option ℕ). judged (groupFault o) (placeFound o)) (sym (c .before .before .first-group .ensures) ∙ ap placeOf (c .enum-told .given .1)))
+returns-2 c = sym (ap (λ (o : Option ℕ). nineUnless o (λ (at : ℕ). at)) (sym (c .before .before .first-group .ensures) ∙ ap placeOf (c .enum-told .given .1)))
 
 pub seek-spec : {M : Type 1} → statement M
-seek-spec = tie.close (tie.spec (search needs) (search needs) enum-told returns returns-2)
+seek-spec = tie.close (tie.spec (search needs) (search needs) (λ c. search needs) returns returns-2)
