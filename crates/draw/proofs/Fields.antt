@@ -18,12 +18,26 @@ use Rattle.draw.specs.declared.FillRecord.{FillRecord}
 draw-temperature : (lo : ℕ) (z : ℤ) → withinSigned (pos lo) (pos 1050) z ≡ true → temperatureOk z ≡ true
 unfolding temperatureOk
 draw-temperature lo (pos n) ok = let h : n ≤ 1050 = leb-true n 1050 (both-second (leb lo n) _ ok) in le-leb n 2000 (omega arith)
-draw-temperature lo (negsuc k) ok = let z : _≡_ {A = ℕ} 0 1 = cc in absurd (omega arith)
+draw-temperature lo (negsuc k) ok = cc
+
+-- a scale reading in range, in 0.01 cubic inch above -100.00, and a certified volume with it
+pub record Scale (certified : ℕ) (z : ℤ) : Type 0 where
+  pub above : ℕ
+  pub is : z +ℤ pos 10000 ≡ pos above
+  pub high : above ≤ 20000
+  pub sum : natAbs (pos certified +ℤ z) ≡ certified + above - 10000
+
+scaled : (certified : ℕ) (z : ℤ) → 20000 ≤ certified → scaleOk z ≡ true → Scale certified z
+unfolding scaleOk
+scaled certified (pos n) low ok = let h : n ≤ 10000 = leb-true n 10000 ok in record { above = n + 10000; is = refl; high = omega arith; sum = omega arith }
+scaled certified (negsuc k) low ok =
+    let h : k ≤ 9999 = leb-true k 9999 (sym (and-true (leb k 9999)) ∙ ok) in
+    record { above = 10000 - suc k; is = below 10000 (suc k) (omega arith); high = omega arith; sum = ap natAbs (below certified (suc k) (omega arith)) ∙ omega arith }
 
 pub record Fields (fill : FillRecord) : Type 0 where
   pub certified-least : 20000 ≤ fill .certified
   pub certified-most : fill .certified ≤ 100000000
-  pub scale : scaleOk (fill .scale) ≡ true
+  pub scale : Scale (fill .certified) (fill .scale)
   pub prover : temperatureOk (fill .prover) ≡ true
   pub measure : temperatureOk (fill .measure) ≡ true
   pub coefficient : coefficientOk (fill .coefficient) ≡ true
@@ -42,7 +56,7 @@ fields fill ok =
     record {
       certified-least = within-low 20000 100000000 (fill .certified) certified;
       certified-most = within-high 20000 100000000 (fill .certified) certified;
-      scale = both-first (scaleOk (fill .scale)) _ from2;
+      scale = scaled (fill .certified) (fill .scale) (within-low 20000 100000000 (fill .certified) certified) (both-first (scaleOk (fill .scale)) _ from2);
       prover = draw-temperature 350 (fill .prover) (both-first (drawProverOk (fill .prover)) _ from3);
       measure = draw-temperature 321 (fill .measure) (both-first (drawMeasureOk (fill .measure)) _ from4);
       coefficient = both-first (coefficientOk (fill .coefficient)) _ from5;
@@ -50,28 +64,14 @@ fields fill ok =
       pressure = both-second (ctdwOk (fill .ctdw)) _ from6;
     }
 
--- a scale reading in range, in 0.01 cubic inch above -100.00, and a certified volume with it
-pub record Scale (certified : ℕ) (z : ℤ) : Type 0 where
-  pub above : ℕ
-  pub is : z +ℤ pos 10000 ≡ pos above
-  pub high : above ≤ 20000
-  pub sum : natAbs (pos certified +ℤ z) ≡ certified + above - 10000
-
-pub scaled : (certified : ℕ) (z : ℤ) → 20000 ≤ certified → scaleOk z ≡ true → Scale certified z
-unfolding scaleOk
-scaled certified (pos n) low ok = let h : n ≤ 10000 = leb-true n 10000 ok in record { above = n + 10000; is = refl; high = omega arith; sum = omega arith }
-scaled certified (negsuc k) low ok =
-    let h : k ≤ 9999 = leb-true k 9999 (sym (and-true (leb k 9999)) ∙ ok) in
-    record { above = 10000 - suc k; is = below 10000 (suc k) (omega arith); high = omega arith; sum = ap natAbs (below certified (suc k) (omega arith)) ∙ omega arith }
-
 -- the pass rule, by the record before
 pub rule-first : (s : List ℕ) {i : ℕ} {fill : FillRecord} → i ≡ 0 → fill ≡ fillAt s i → eqb (fill .pass) 1 ≡ ruleOk s i
 unfolding ruleOk
-rule-first s {i} {fill} first is = ap (λ (f : FillRecord). eqb (f .pass) 1) is ∙ rw first
+rule-first s {i} {fill} first is = rw first (cc)
 
 pub rule-later : (s : List ℕ) (i : ℕ) {before fill : FillRecord} → (i ≡ 0 → ⊥) → before ≡ fillAt s (i - 1) → fill ≡ fillAt s i → follows before fill ≡ ruleOk s i
 unfolding ruleOk
 rule-later s zero later is-before is = absurd (later refl)
 rule-later s (suc i) later is-before is =
     let less : suc i - 1 ≡ i = omega arith in
-    λ t. follows ((is-before ∙ ap (fillAt s) less) t) (is t)
+    cc

@@ -53,15 +53,10 @@ pub volumes-length : (prover : Prover) (s : List ℕ) → length (volumesOf prov
 unfolding volumesOf
 volumes-length prover s = listed-length (passVolume prover s) (passCount s) 1
 
--- the array beside a count and beside a refusal
-module _ (prover : Prover) (s : List ℕ) where
-  pub held-done : {count : ℕ} → passesOf prover s ≡ done count → heldFor prover s ≡ zerosAfter 20 (volumesOf prover s)
-  unfolding heldFor
-  held-done is = ap (λ (t : Told ℕ). zerosAfter 20 (leftBy t (λ n. volumesOf prover s) [])) is
-
-  pub held-refused : {number at : ℕ} → passesOf prover s ≡ refused number at → heldFor prover s ≡ zerosAfter 20 []
-  unfolding heldFor
-  held-refused is = ap (λ (t : Told ℕ). zerosAfter 20 (leftBy t (λ n. volumesOf prover s) [])) is
+-- the array beside an answer
+pub held-by : (prover : Prover) (s : List ℕ) {told : Told ℕ} → passesOf prover s ≡ told → heldFor prover s ≡ zerosAfter 20 (leftBy told (λ n. volumesOf prover s) [])
+unfolding heldFor
+held-by prover s is = rw is
 
 -- what a count of passes says: judging found nothing, and the array begins with the volumes of all passes
 pub record Found (prover : Prover) (s volumes : List ℕ) (count : ℕ) : Type 0 where
@@ -79,7 +74,7 @@ module _ (prover : Prover) (s : List ℕ) {answer : Counted} (tells : toldPasses
       let counted : passCount s ≡ count = judged-done (drawFault prover s) (passCount s) told-count in
       let few : passCount s ≤ 20 = sound prover s nothing .few-passes in
       let long : length (volumesOf prover s) ≡ passCount s = volumes-length prover s in
-      let array : volumes ≡ zerosAfter 20 (volumesOf prover s) = holds ∙ held-done prover s told-count in
+      let array : volumes ≡ zerosAfter 20 (volumesOf prover s) = holds ∙ held-by prover s told-count in
       record {
         nothing = nothing;
         few = omega arith;
@@ -89,7 +84,7 @@ module _ (prover : Prover) (s : List ℕ) {answer : Counted} (tells : toldPasses
 
   pub draw-refused : {refusal : Refusal} → answer ≡ Passes·Refused refusal → refused (numberOf refusal) (recordOf refusal) ≡ drawOf prover s
   unfolding drawOf passesOf
-  draw-refused is = sym (ap (λ (f : Fault). unless f (baseOf 2 3 (volumesOf prover s))) (judged-refused (drawFault prover s) (passCount s) (sym tells ∙ ap toldPasses is)))
+  draw-refused is = rw (judged-refused (drawFault prover s) (passCount s) (sym tells ∙ ap toldPasses is))
 
 -- ---- when a draw is accepted
 

@@ -32,8 +32,8 @@ goes-on : (before fill : FillRecord) → follows before fill ≡ true → GoesOn
 unfolding follows
 goes-on before fill is =
     ⊎-elim
-    (λ same. inl (eqb-true (fill .pass) (before .pass) (both-first (eqb (fill .pass) (before .pass)) _ same), eqb-true (fill .pressure) (before .pressure) (both-second (eqb (fill .pass) (before .pass)) _ same)))
-    (λ next. inr (eqb-true (fill .pass) (before .pass + 1) next))
+    (λ same. inl (eqb-true _ _ (both-first (eqb (fill .pass) (before .pass)) _ same), eqb-true _ _ (both-second (eqb (fill .pass) (before .pass)) _ same)))
+    (λ next. inr (eqb-true _ _ next))
     (either _ _ is)
 
 -- a place at which a fill of the pass stands
@@ -56,14 +56,16 @@ module _ (prover : Prover) (s : List ℕ) (good : Sound prover s) where
     pub on : fillAt s k .pass ≤ fillAt s i .pass
     pub same : fillAt s i .pass ≡ fillAt s k .pass → fillAt s i .pressure ≡ fillAt s k .pressure
 
+  itself : (k i : ℕ) → i ≡ k → Later k i
+  itself k i same = record { on = omega (arith, ap (λ (j : ℕ). fillAt s j .pass) same); same = λ _. ap (λ (j : ℕ). fillAt s j .pressure) same }
+
+  next : (k i : ℕ) → Later k i → GoesOn (fillAt s i) (fillAt s (suc i)) → Later k (suc i)
+  next k i before (inl goes) = record { on = omega (arith, goes .0, before .on); same = λ is. goes .1 ∙ before .same (sym (goes .0) ∙ is) }
+  next k i before (inr rise) = record { on = omega (arith, rise, before .on); same = λ is. absurd (omega (arith, rise, before .on, is)) }
+
   pub later : (k i : ℕ) → k ≤ i → i < recordsIn 32 s → Later k i
-  later k zero le h =
-      let same : zero ≡ k = omega arith in
-      record { on = omega (arith, ap (λ (j : ℕ). fillAt s j .pass) same); same = λ _. ap (λ (j : ℕ). fillAt s j .pressure) same }
-  later k (suc i) le h =
-      by-cases (decLe k i)
-      (λ below. let before : Later k i = later k i below (omega arith) in ⊎-elim (λ goes. record { on = omega (arith, goes .0, before .on); same = λ is. goes .1 ∙ before .same (sym (goes .0) ∙ is) }) (λ next. record { on = omega (arith, next, before .on); same = λ is. absurd (omega (arith, next, before .on, is)) }) (rises i h))
-      (λ above. let same : suc i ≡ k = omega arith in record { on = omega (arith, ap (λ (j : ℕ). fillAt s j .pass) same); same = λ _. ap (λ (j : ℕ). fillAt s j .pressure) same })
+  later k zero le h = itself k zero (omega arith)
+  later k (suc i) le h = by-cases (decLe k i) (λ below. next k i (later k i below (omega arith)) (rises i h)) (λ above. itself k (suc i) (omega arith))
 
   -- 'all fills of a pass carry one pressure': the pass's
   pub one-pressure : (i : ℕ) → i < recordsIn 32 s → fillAt s i .pressure ≡ passPressure s (fillAt s i .pass)
@@ -74,12 +76,12 @@ module _ (prover : Prover) (s : List ℕ) (good : Sound prover s) where
       of-itself = eq-eqb (fillAt s i .pass) (fillAt s i .pass) refl
 
       by-place : (at : Option ℕ) → firstPlace (isOf s (fillAt s i .pass)) (recordsIn 32 s) 0 ≡ at → fillAt s i .pressure ≡ pressureAt s at
-      by-place none is = let z : true ≡ false = sym of-itself ∙ place-none (isOf s (fillAt s i .pass)) (recordsIn 32 s) 0 is i (omega arith) (omega arith) in let y : _≡_ {A = ℕ} 0 1 = cc in absurd (omega arith)
+      by-place none is = let z : true ≡ false = sym of-itself ∙ place-none (isOf s (fillAt s i .pass)) (recordsIn 32 s) 0 is i (omega arith) (omega arith) in cc
       by-place (some k) is =
           let first : First (isOf s (fillAt s i .pass)) (recordsIn 32 s) 0 k = place-first (isOf s (fillAt s i .pass)) (recordsIn 32 s) 0 is in
           by-cases (decLe k i)
           (λ le. later k i le h .same (sym (eqb-true (fillAt s k .pass) (fillAt s i .pass) (first .passes))))
-          (λ more. let z : true ≡ false = sym of-itself ∙ first .before i (omega arith) (omega arith) in let y : _≡_ {A = ℕ} 0 1 = cc in absurd (omega arith))
+          (λ more. let z : true ≡ false = sym of-itself ∙ first .before i (omega arith) (omega arith) in cc)
 
   -- no pass is skipped
   pub reached : (i pass : ℕ) → i < recordsIn 32 s → 1 ≤ pass → pass ≤ fillAt s i .pass → FillOf s pass i

@@ -15,14 +15,21 @@ use Rattle.octets.specs.Records.{recordsIn, areRecords}
 use Rattle.octets.proofs.FirstToLast.{faults, empty}
 use Rattle.factors.specs.Metal.{metalOk}
 use Rattle.factors.specs.Prover.{pipeOk}
+use Rattle.factors.specs.declared.Metal.{Metal}
 use Rattle.factors.specs.declared.Prover.{Prover}
 use Rattle.draw.specs.Fill.{fillAt, fillOk, ruleOk}
 use Rattle.draw.specs.Passes.{passCount}
-use Rattle.draw.specs.Answers.{recordFault, fillFault, drawFault}
+use Rattle.draw.specs.Answers.{recordFault, fillFault, aloneFault, drawFault}
 
-pub record-fields : (s : List ℕ) (i : ℕ) → recordFault s i ≡ fine → fillOk (fillAt s i) ≡ true
+record-fields : (s : List ℕ) (i : ℕ) → recordFault s i ≡ fine → fillOk (fillAt s i) ≡ true
 unfolding recordFault
 record-fields s i is = demandAt-was (fillOk (fillAt s i)) 5 (i + 1) (orElse-fine-first (demandAt (fillOk (fillAt s i)) 5 (i + 1)) _ is)
+
+pub alone-good : (metal : Metal) (s : List ℕ) → aloneFault metal s ≡ fine → (metalOk metal ≡ true) × (fillOk (fillAt s 0) ≡ true)
+alone-good metal s is =
+    let set = demand (metalOk metal) 3 in
+    let later = orElse-fine-next (demand (eqb (length s) 32) 1) _ is in
+    (demand-was (metalOk metal) 3 (orElse-fine-first set _ later), record-fields s 0 (orElse-fine-next set _ later))
 
 pub count-within : (s : List ℕ) → areRecords fillsOk 32 (length s) ≡ true → (3 ≤ recordsIn 32 s) × (recordsIn 32 s ≤ 60)
 unfolding areRecords recordsIn fillsOk

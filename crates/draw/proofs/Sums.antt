@@ -27,12 +27,7 @@ drawnAt metal s i = drawn metal (fillAt s i)
 abbrev total : (ℕ → ℕ) → ℕ → ℕ → ℕ
 total f n i = sumOf (listed f n i)
 
--- of values that agree, and of values added one by one
-agreeing : (f g : ℕ → ℕ) (n i : ℕ) → ((j : ℕ) → i ≤ j → j < i + n → f j ≡ g j) → total f n i ≡ total g n i
-unfolding sumOf listed
-agreeing f g zero i agree = refl
-agreeing f g (suc n) i agree = omega (arith, agree i (omega arith) (omega arith), agreeing f g n (i + 1) (λ j l h. agree j (omega arith) (omega arith)))
-
+-- of values added one by one
 added : (f g : ℕ → ℕ) (n i : ℕ) → total (λ j. f j + g j) n i ≡ total f n i + total g n i
 unfolding sumOf listed
 added f g zero i = refl
@@ -42,12 +37,6 @@ nothing-added : (n i : ℕ) → total (λ j. 0) n i ≡ 0
 unfolding sumOf listed
 nothing-added zero i = refl
 nothing-added (suc n) i = omega (arith, nothing-added n (i + 1))
-
--- by rows or by columns
-exchanged : (f : ℕ → ℕ → ℕ) (c k n i : ℕ) → total (λ p. total (f p) n i) c k ≡ total (λ j. total (λ p. f p j) c k) n i
-unfolding sumOf listed
-exchanged f c k zero i = nothing-added c k
-exchanged f c k (suc n) i = added (λ p. f p i) (λ p. total (f p) n (i + 1)) c k ∙ omega (arith, exchanged f c k n (i + 1))
 
 -- a value that one place adds: none of those behind it, and that one among them
 abbrev atPlace : ℕ → ℕ → ℕ → ℕ
@@ -66,12 +55,20 @@ once q x (suc c) k low high =
     (λ past. rw (ne-eqb q k (λ is. omega arith)) (omega (arith, once q x c (k + 1) (omega arith) (omega arith))))
     (λ here. rw (eq-eqb q k (omega arith)) (omega (arith, not-there q x c (k + 1) (omega arith))))
 
+-- values x that each go to a place q among c from 1 on: by places or one by one
+gathered : (q x : ℕ → ℕ) (c n i : ℕ) → ((j : ℕ) → i ≤ j → j < i + n → (1 ≤ q j) × (q j ≤ c)) → total (λ p. total (λ j. atPlace (q j) (x j) p) n i) c 1 ≡ total x n i
+unfolding sumOf listed
+gathered q x c zero i each = nothing-added c 1
+gathered q x c (suc n) i each =
+    let here = each i (omega arith) (omega arith) in
+    added (atPlace (q i) (x i)) (λ p. total (λ j. atPlace (q j) (x j) p) n (i + 1)) c 1
+    ∙ omega (arith, once (q i) (x i) c 1 (here .0) (omega (arith, here .1)), gathered q x c n (i + 1) (λ j l h. each j (omega arith) (omega arith)))
+
 pub all-fills-once : (prover : Prover) (s : List ℕ) → Sound prover s → sumOf (listed (passSum (prover .metal) s) (passCount s) 1) ≡ sumOf (listed (drawnAt (prover .metal) s) (recordsIn 32 s) 0)
 unfolding passSum drawnFor isOf drawnAt passCount
 all-fills-once prover s good =
     let n = recordsIn 32 s in
-    exchanged (drawnFor (prover .metal) s) (passCount s) 1 n 0
-    ∙ agreeing (λ i. total (λ p. drawnFor (prover .metal) s p i) (passCount s) 1) (drawnAt (prover .metal) s) n 0 (λ i l h.
-    once (fillAt s i .pass) (drawn (prover .metal) (fillAt s i)) (passCount s) 1
-    (omega (arith, begins prover s good, later prover s good 0 i (omega arith) (omega arith) .on))
-    (omega (arith, later prover s good i (n - 1) (omega arith) (omega (arith, good .some-fills)) .on)))
+    gathered (λ i. fillAt s i .pass) (drawnAt (prover .metal) s) (passCount s) n 0 (λ i l h. (
+      omega (arith, begins prover s good, later prover s good 0 i (omega arith) (omega arith) .on),
+      later prover s good i (n - 1) (omega arith) (omega (arith, good .some-fills)) .on,
+    ))

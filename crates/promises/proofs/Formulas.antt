@@ -44,7 +44,7 @@ use Rattle.run.proofs.Laws.{SideFits, side-fits, RunFits, run-fits, ProverFits,
 use Rattle.draw.specs.Fill.{fillAt, fillOk}
 use Rattle.draw.specs.Drawn.{adjusted, measureCts, proverCts, ccts, drawn, figuresOf as fillFigures}
 use Rattle.draw.specs.Passes.{isOf, passSum, pressureAt, passPressure, waterCompressibility, waterAt, correctedVolume, passVolume}
-use Rattle.draw.proofs.Volumes.{water-ok}
+use Rattle.draw.proofs.Magnitudes.{water-ok}
 use Rattle.draw.specs.Base.{barrelsOf}
 use Rattle.draw.specs.declared.FillFigures.{FillFigures}
 use Rattle.draw.proofs.Fields.{fields}

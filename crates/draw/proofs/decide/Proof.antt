@@ -1,16 +1,15 @@
 -- `draw::decide` meets its contract: the group found is the first, and lies within the volumes.
 use mathlib.Core.Path.{_≡_, sym, ap, _∙_}
 use mathlib.Core.List.{List}
-use mathlib.Core.Option.{Option, some}
+use mathlib.Core.Option.{some}
 use Prim.Native.Nat.{ℕ, _+_, _≤_}
 use native.Mathlib.Omega.{arith}
 use borrow.Author.Needs.{needs}
 use lib.ListN.{length}
-use Rattle.refusals.specs.Told.{Told, done}
-use Rattle.group.specs.Repeatability.{groupAt, firstGroup, placeOf, nineUnless}
+use Rattle.refusals.specs.Told.{done}
+use Rattle.group.specs.Repeatability.{firstGroup, placeOf}
 use Rattle.group.proofs.Groups.{first-found, part-is-group}
 use Rattle.draw.specs.Base.{baseFrom, baseOf}
-use Rattle.draw.specs.declared.BaseVolume.{BaseVolume}
 use Rattle.draw.proofs.decide.Statement.{statement}
 use Rattle.draw.proofs.decide.Tie as tie
 
@@ -23,22 +22,17 @@ place c = sym (c .before .before .before .first-group .ensures) ∙ ap placeOf (
 inside : (c : tie.After-known-told) → (c .before .found .given .0 .0 + 3 ≤ length (volumes c)) × (length (volumes c) ≤ 20)
 inside c = (first-found 2 3 (volumes c) (place c) .within, c .before .before .before .before .before .pre)
 
-abbrev decided : List ℕ → Option ℕ → Told BaseVolume
-decided xs place = nineUnless place (λ at. baseFrom (groupAt 3 xs at) at)
-
 returns : tie.Need-returns
 unfolding baseOf
 returns c =
     let k = c .before .before in
     let at = k .before .found .given .0 .0 in
-    ap done (c .base-from .ensures ∙ ap (λ (xs : List ℕ). baseFrom xs at) (part-is-group 3 (volumes k) at)) ∙ sym (ap (decided (volumes k)) (place k))
-
-returns-2 : tie.Need-returns-2
-unfolding baseOf
-returns-2 c = let g = c .before .before in sym (ap (decided (g .before .before .args .volumes .now)) (sym (g .first-group .ensures) ∙ ap placeOf (c .enum-told .given .1)))
+    rw (place k) (ap done (c .base-from .ensures ∙ ap (λ (xs : List ℕ). baseFrom xs at) (part-is-group 3 (volumes k) at)))
 
 pub decide-spec : {M : Type 1} → statement M
+unfolding baseOf
 decide-spec =
     tie.close
     (tie.spec (search needs) (search needs) (λ c. omega (arith, inside c)) (λ c. omega (arith, inside c)) (search needs) (search needs)
-    (λ c. omega (arith, inside c)) (λ c κs. omega (arith, inside (c .before))) (λ c. search needs) returns returns-2)
+    (λ c. omega (arith, inside c)) (λ c κs. omega (arith, inside (c .before))) (λ c. search needs) returns
+    (λ c. rw (sym (c .before .before .first-group .ensures) ∙ ap placeOf (c .enum-told .given .1))))

@@ -4,8 +4,6 @@ use native.Mathlib.Omega.{arith}
 use borrow.Author.Needs.{needs}
 use lib.ListN.{length, take}
 use lib.Seq.{length-take-le}
-use Rattle.refusals.specs.Told.{Fault, unless}
-use Rattle.draw.specs.Passes.{volumesOf}
 use Rattle.draw.specs.Base.{baseOf}
 use Rattle.draw.specs.Answers.{drawOf}
 use Rattle.draw.proofs.Outcome.{Found, passes-found, draw-refused}
@@ -23,18 +21,9 @@ found c =
 used-length : (c : tie.After-known-told) → length (take (c .before .answer .given .0 .0) (c .before .before .before .passes .result .volumes)) ≡ c .before .answer .given .0 .0
 used-length c = let f = found c in length-take-le (c .before .answer .given .0 .0) (c .before .before .before .passes .result .volumes) (omega (arith, f .few, f .places))
 
-array-share-prefix-volumes : tie.Need-array-share-prefix-volumes
-array-share-prefix-volumes c = let f = found (c .before) in omega (arith, f .few, f .places)
-
-decide-requires : tie.Need-decide-requires
-decide-requires c κs = let k = c .before .before in omega (arith, used-length k, found k .few)
-
 returns : tie.Need-returns
 unfolding drawOf
-returns c =
-    let k = c .before .before .before in
-    let f = found k in
-    c .decide .ensures ∙ ap (baseOf 2 3) (f .used) ∙ sym (ap (λ (g : Fault). unless g (baseOf 2 3 (volumesOf (start k .args .prover) (start k .args .records .now)))) (f .nothing))
+returns c = let f = found (c .before .before .before) in rw (f .nothing) (c .decide .ensures ∙ ap (baseOf 2 3) (f .used))
 
 returns-2 : tie.Need-returns-2
 returns-2 c =
@@ -46,5 +35,6 @@ returns-2 c =
 pub draw-spec : {M : Type 1} → statement M
 draw-spec =
     tie.close
-    (tie.spec (search needs) (search needs) (search needs) array-share-prefix-volumes (λ c. sym (used-length (c .before .before))) decide-requires
-    (search needs) returns returns-2)
+    (tie.spec (search needs) (search needs) (search needs) (λ c. let f = found (c .before) in omega (arith, f .few, f .places))
+    (λ c. sym (used-length (c .before .before))) (λ c κs. let k = c .before .before in omega (arith, used-length k, found k .few)) (search needs)
+    returns returns-2)

@@ -9,11 +9,9 @@ use Rattle.draw.specs.Base.{barrelsOf}
 use Rattle.draw.proofs.in_barrels.Statement.{statement}
 use Rattle.draw.proofs.in_barrels.Tie as tie
 
-returns : tie.Need-returns
-unfolding barrelsOf rounded
-returns c =
-    let s = c .before in
-    c .round-or-zero .ensures ∙ value-below (s .args .base * 10000) (omega arith) (s .args .base) (omega arith) (s .fits .base .fits)
-
 pub in-barrels-spec : {M : Type 1} → statement M
-in-barrels-spec = tie.close (tie.spec (search needs) returns)
+unfolding barrelsOf rounded
+in-barrels-spec =
+    tie.close
+    (tie.spec (search needs)
+    (λ c. c .round-or-zero .ensures ∙ value-below (c .before .args .base * 10000) (omega arith) (c .before .args .base) (omega arith) (c .before .fits .base .fits)))

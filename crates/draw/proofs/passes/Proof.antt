@@ -1,17 +1,15 @@
 -- `draw::passes` meets its contract.
 use mathlib.Core.Path.{_≡_, sym, ap, _∙_}
-use Prim.Native.Nat.{ℕ}
 use native.Mathlib.Omega.{arith}
 use borrow.Author.Needs.{needs}
-use Rattle.refusals.specs.Told.{done, fine}
+use Rattle.refusals.specs.Told.{fine}
 use Rattle.refusals.specs.Verdict.{faultOf}
 use Rattle.refusals.proofs.Laws.{judged-fine, judged-fault}
 use Rattle.octets.specs.Records.{zerosAfter}
-use Rattle.group.specs.Listed.{listed}
-use Rattle.draw.specs.Passes.{passCount, passVolume, volumesOf}
+use Rattle.draw.specs.Passes.{passCount, volumesOf}
 use Rattle.draw.specs.Answers.{drawFault, passesOf}
 use Rattle.draw.proofs.Sound.{Sound, sound}
-use Rattle.draw.proofs.Outcome.{held-done, held-refused}
+use Rattle.draw.proofs.Outcome.{held-by}
 use Rattle.draw.proofs.passes.Statement.{statement}
 use Rattle.draw.proofs.passes.Tie as tie
 
@@ -24,21 +22,13 @@ nothing c = sym (c .before .before .judge-draw .ensures) ∙ ap faultOf (c .enum
 good : (c : tie.After-enum-told) → Sound (start c .args .prover) (start c .args .records .now)
 good c = sound (start c .args .prover) (start c .args .records .now) (nothing c)
 
-count-passes-requires : tie.Need-count-passes-requires
-count-passes-requires c κs = let w = good c in (omega (arith, w .some-fills), w .few-fills)
-
-collect-requires : tie.Need-collect-requires
-collect-requires c κs = let e = c .before in (nothing e, omega (arith, c .count-passes .ensures, good e .few-passes))
-
 returns : tie.Need-returns
 unfolding passesOf volumesOf
 returns c =
-    let n = c .before in
-    let e = n .before in
-    let a = start e .args in
-    let s = a .records .now in
-    let is = judged-fine (passCount s) (nothing e) in
-    (ap done (n .count-passes .ensures) ∙ sym is, c .collect .ensures ∙ ap (λ (k : ℕ). zerosAfter 20 (listed (passVolume (a .prover) s) k 1)) (n .count-passes .ensures) ∙ sym (held-done (a .prover) s is))
+    let e = c .before .before in
+    let is = judged-fine (passCount (start e .args .records .now)) (nothing e) in
+    let held = held-by (start e .args .prover) (start e .args .records .now) is in
+    ((cc), (cc))
 
 returns-2 : tie.Need-returns-2
 unfolding passesOf zerosAfter
@@ -47,7 +37,10 @@ returns-2 c =
     let j = v .before .before in
     let a = j .before .before .args in
     let is = judged-fault (passCount (a .records .now)) (sym (j .judge-draw .ensures) ∙ ap faultOf (v .verdict .given .1)) in
-    (sym is, sym (held-refused (a .prover) (a .records .now) is))
+    (sym is, sym (held-by (a .prover) (a .records .now) is))
 
 pub passes-spec : {M : Type 1} → statement M
-passes-spec = tie.close (tie.spec (search needs) (λ c. search needs) count-passes-requires collect-requires (search needs) returns returns-2)
+passes-spec =
+    tie.close
+    (tie.spec (search needs) (λ c. search needs) (λ c κs. let w = good c in (omega (arith, w .some-fills), w .few-fills))
+    (λ c κs. let e = c .before in (nothing e, omega (arith, c .count-passes .ensures, good e .few-passes))) (search needs) returns returns-2)

@@ -8,40 +8,28 @@ use mir.Syntax.{w16}
 use mir.Val.{toZ, ofZ}
 use Rattle.ranges.proofs.Counted.{passed-on, sum-fits, cast-is, cast-fits}
 use Rattle.draw.specs.Drawn.{adjusted}
-use Rattle.draw.proofs.Fields.{Fields, fields, Scale, scaled}
+use Rattle.draw.proofs.Fields.{Fields, fields}
 use Rattle.draw.proofs.fills.adjust.Statement.{statement}
 use Rattle.draw.proofs.fills.adjust.Tie as tie
 
 facts : (c : tie.Start) → Fields (c .args .fill)
 facts c = fields (c .args .fill) (c .pre)
 
-scale : (c : tie.Start) → Scale (c .args .fill .certified) (c .args .fill .scale)
-scale c = scaled (c .args .fill .certified) (c .args .fill .scale) (facts c .certified-least) (facts c .scale)
-
 back : (c : tie.After-struct-told) → toZ w16 (ofZ w16 (c .before .before .args .fill .scale)) ≡ c .before .before .args .fill .scale
 back c = passed-on (c .before .before .args .fill .scale) (c .struct-told .given .1 .0 .1)
 
-high : (c : tie.Start) → scale c .above ≤ 32767
-high c = omega (arith, scale c .high)
+high : (c : tie.Start) → facts c .scale .above ≤ 32767
+high c = omega (arith, facts c .scale .high)
 
-above-is : (c : tie.After-struct-told) → natAbs (toZ w16 (ofZ w16 (toZ w16 (ofZ w16 (c .before .before .args .fill .scale)) +ℤ pos 10000))) ≡ scale (c .before .before) .above
-above-is c = let s = c .before .before in ap natAbs (cast-is 10000 (back c) (scale s .is) (high s))
-
-add-above : tie.Need-add-above
-add-above c = let s = c .before .before in sum-fits 10000 (back c) (scale s .is) (high s)
-
-cast-above : tie.Need-cast-above
-cast-above c = let s = c .before .before in cast-fits 10000 (back c) (scale s .is) (high s)
-
-add-result : tie.Need-add-result
-add-result c = let s = c .before .before .before in omega (arith, above-is (c .before), facts s, scale s)
-
-sub-result : tie.Need-sub-result
-sub-result c = omega (arith, above-is (c .before), facts (c .before .before .before))
-
-returns : tie.Need-returns
-unfolding adjusted
-returns c = omega (arith, above-is (c .before), scale (c .before .before .before) .sum)
+above-is : (c : tie.After-struct-told) → natAbs (toZ w16 (ofZ w16 (toZ w16 (ofZ w16 (c .before .before .args .fill .scale)) +ℤ pos 10000))) ≡ facts (c .before .before) .scale .above
+above-is c = let s = c .before .before in ap natAbs (cast-is 10000 (back c) (facts s .scale .is) (high s))
 
 pub adjust-spec : {M : Type 1} → statement M
-adjust-spec = tie.close (tie.spec add-above cast-above (search needs) add-result sub-result returns)
+unfolding adjusted
+adjust-spec =
+    tie.close
+    (tie.spec (λ c. let s = c .before .before in sum-fits 10000 (back c) (facts s .scale .is) (high s))
+    (λ c. let s = c .before .before in cast-fits 10000 (back c) (facts s .scale .is) (high s)) (search needs)
+    (λ c. let s = c .before .before .before in omega (arith, above-is (c .before), facts s))
+    (λ c. omega (arith, above-is (c .before), facts (c .before .before .before)))
+    (λ c. omega (arith, above-is (c .before), facts (c .before .before .before) .scale .sum)))

@@ -5,9 +5,6 @@ use Rattle.draw.specs.Fill.{follows}
 use Rattle.draw.proofs.fills.is_next.Statement.{statement}
 use Rattle.draw.proofs.fills.is_next.Tie as tie
 
-returns : tie.Need-returns
-unfolding follows
-returns c = refl
-
 pub is-next-spec : {M : Type 1} → statement M
-is-next-spec = tie.close (tie.spec (search needs) (search needs) (search needs) returns)
+unfolding follows
+is-next-spec = tie.close (tie.spec (search needs) (search needs) (search needs) (λ c. refl))

@@ -14,9 +14,6 @@ use Rattle.draw.proofs.fills.work_out.Tie as tie
 expanded-fits : (c : tie.Start) {x : ℕ} → x ≡ adjusted (c .args .fill) → x * c .args .fill .ctdw ≤ 102010200000000
 expanded-fits c is = let a = c .args in rw is (expanded-most (a .metal) (a .fill) (c .pre .0) (c .pre .1))
 
-mul-expanded : tie.Need-mul-expanded
-mul-expanded c = let s = c .before .before .before .before .before .before .before .before in omega (arith, s .adjust .ensures, expanded-fits (s .before) (s .adjust .ensures))
-
 returns : tie.Need-returns
 unfolding figuresOf measureCts proverCts metalOk
 returns c =
@@ -39,4 +36,6 @@ pub work-out-spec : {M : Type 1} → statement M
 work-out-spec =
     tie.close
     (tie.spec (λ c κs. search needs) (λ c κs. search needs) (λ c κs. search needs) (λ c. search needs) (λ c κs. search needs) (λ c κs. search needs)
-    (λ c. search needs) (λ c κs. search needs) (λ c. search needs) mul-expanded (λ c κs. search needs) returns)
+    (λ c. search needs) (λ c κs. search needs) (λ c. search needs)
+    (λ c. let s = c .before .before .before .before .before .before .before .before in omega (arith, s .adjust .ensures, expanded-fits (s .before) (s .adjust .ensures)))
+    (λ c κs. search needs) returns)

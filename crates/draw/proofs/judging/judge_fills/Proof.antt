@@ -34,14 +34,9 @@ loop-again c =
     let a = l .before .before .args in
     next faults (fillFault (a .s .now)) (a .fills) (l .loop .i) (omega arith) (sym (j .judge-fill .ensures) ∙ ap faultOf (c .enum-told .given .1)) (l .loop .inv)
 
-returns-2 : tie.Need-returns-2 Inv-loop μ-loop
-returns-2 c =
-    let l = c .before in
-    let a = l .before .before .args in
-    sym (done faults (fillFault (a .s .now)) (a .fills) (l .loop .i) (omega arith) (l .loop .inv))
-
 pub judge-fills-spec : {M : Type 1} → statement M
 judge-fills-spec =
     tie.close
-    (tie.spec Inv-loop μ-loop loop-holds (search needs) (search needs) returns (λ c. search needs) (search needs) (λ c. omega arith) loop-again
-    returns-2)
+    (tie.spec Inv-loop μ-loop loop-holds (search needs) (search needs) returns
+    (λ c. search needs) (search needs) (λ c. omega arith) loop-again
+    (λ c. let l = c .before in let a = l .before .before .args in sym (done faults (fillFault (a .s .now)) (a .fills) (l .loop .i) (omega arith) (l .loop .inv))))

@@ -10,9 +10,6 @@ use Rattle.draw.proofs.Volumes.{adds, adds-nothing}
 use Rattle.draw.proofs.passing.add_to_pass.Statement.{statement}
 use Rattle.draw.proofs.passing.add_to_pass.Tie as tie
 
-work-out-requires : tie.Need-work-out-requires
-work-out-requires c κs = let r = c .before .before in let s = r .before .before in (s .pre .1, ap fillOk (r .decode .ensures) ∙ s .pre .2)
-
 returns : tie.Need-returns
 unfolding figuresOf
 returns c =
@@ -22,8 +19,9 @@ returns c =
     let drew = ap (λ (f : FillFigures). f .drawn) (c .work-out .ensures) in
     (adds (a .s .now) (a .i) (r .decode .ensures) (a .metal) (c .before .if1 .taken) drew, omega (arith, drew, drawn-most (a .metal) (r .decode .result) (s .pre .1) (ap fillOk (r .decode .ensures) ∙ s .pre .2)))
 
-returns-2 : tie.Need-returns-2
-returns-2 c = let r = c .before .before in let a = r .before .before .args in (adds-nothing (a .s .now) (a .i) (r .decode .ensures) (a .metal) (a .pass) (c .if1 .left), omega arith)
-
 pub add-to-pass-spec : {M : Type 1} → statement M
-add-to-pass-spec = tie.close (tie.spec (search needs) work-out-requires returns returns-2)
+add-to-pass-spec =
+    tie.close
+    (tie.spec (search needs)
+    (λ c κs. let r = c .before .before in let s = r .before .before in (s .pre .1, ap fillOk (r .decode .ensures) ∙ s .pre .2)) returns
+    (λ c. let r = c .before .before in let a = r .before .before .args in (adds-nothing (a .s .now) (a .i) (r .decode .ensures) (a .metal) (a .pass) (c .if1 .left), omega arith)))

@@ -19,21 +19,8 @@ Inv-loop metal s pass fills sum₀ i₀ sum i = (sum + sumOf (listed (drawnFor m
 abbrev μ-loop : tie.MeasureT-loop
 μ-loop metal s pass fills sum₀ i₀ sum i = fills - i
 
-few : (c : tie.Start Inv-loop μ-loop) → length (c .args .s .now) / 32 ≤ 60
-unfolding recordsIn
-few c = c .pre .1
-
 loop-holds : tie.Need-loop-holds Inv-loop μ-loop
 loop-holds c = (rw (sub-zero, zero-add), (omega arith, omega arith))
-
-add-to-pass-requires : tie.Need-add-to-pass-requires Inv-loop μ-loop
-unfolding recordsIn
-add-to-pass-requires c κs =
-    let s = c .before .before .before in
-    (omega (arith, s .pre .1), s .pre .0, s .pre .2 (c .before .loop .i) (omega arith))
-
-add-sum : tie.Need-add-sum Inv-loop μ-loop
-add-sum c = omega (arith, c .add-to-pass .ensures .1, few (c .before .before .before .before), c .before .before .loop .inv)
 
 loop-again : tie.Need-loop-again Inv-loop μ-loop
 loop-again c =
@@ -48,7 +35,13 @@ returns c =
     let s = l .before .before in
     let a = s .args in
     let none-left : length (a .s .now) / 32 - l .loop .i ≡ 0 = omega arith in
-    (omega (arith, l .loop .inv .0, ap (λ (n : ℕ). sumOf (listed (drawnFor (a .metal) (a .s .now) (a .pass)) n (l .loop .i))) none-left), omega (arith, l .loop .inv, few s))
+    (omega (arith, l .loop .inv .0, ap (λ (n : ℕ). sumOf (listed (drawnFor (a .metal) (a .s .now) (a .pass)) n (l .loop .i))) none-left), omega (arith, l .loop .inv, s .pre .1))
 
 pub add-up-spec : {M : Type 1} → statement M
-add-up-spec = tie.close (tie.spec Inv-loop μ-loop loop-holds add-to-pass-requires add-sum (search needs) (λ c. omega arith) loop-again returns)
+unfolding recordsIn
+add-up-spec =
+    tie.close
+    (tie.spec Inv-loop μ-loop loop-holds
+    (λ c κs. let s = c .before .before .before in (omega (arith, s .pre .1), s .pre .0, s .pre .2 (c .before .loop .i) (omega arith)))
+    (λ c. omega (arith, c .add-to-pass .ensures .1, c .before .before .before .before .pre .1, c .before .before .loop .inv)) (search needs)
+    (λ c. omega arith) loop-again returns)

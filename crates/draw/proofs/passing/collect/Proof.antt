@@ -1,6 +1,6 @@
 -- `draw::passing::collect` meets its contract. The loop's invariant: the array holds the volumes of the passes 1 to i, and zeros after them.
 use mathlib.Core.Path.{_≡_, refl, ap, _∙_}
-use Prim.Native.Nat.{ℕ, _-_, _≤_}
+use Prim.Native.Nat.{_-_, _≤_}
 use native.Mathlib.Omega.{arith}
 use borrow.Author.Needs.{needs}
 use Rattle.octets.specs.Records.{zerosAfter}
@@ -16,22 +16,6 @@ Inv-loop prover s count volumes₀ last i₀ volumes i = (i ≤ last) × (volume
 abbrev μ-loop : tie.MeasureT-loop
 μ-loop prover s count volumes₀ last i₀ volumes i = last - i
 
-loop-holds : tie.Need-loop-holds Inv-loop μ-loop
-unfolding listed zerosAfter
-loop-holds c = (omega arith, refl)
-
-cast-find-volume : tie.Need-cast-find-volume Inv-loop μ-loop
-cast-find-volume c = omega (arith, c .before .before .before .pre .1)
-
-find-volume-requires : tie.Need-find-volume-requires Inv-loop μ-loop
-find-volume-requires c κs = c .before .before .before .pre .0
-
-mul-volumes : tie.Need-mul-volumes Inv-loop μ-loop
-mul-volumes c = omega (arith, c .before .before .before .before .pre .1)
-
-array-write-volumes : tie.Need-array-write-volumes Inv-loop μ-loop
-array-write-volumes c = omega (arith, c .before .before .before .before .pre .1)
-
 loop-again : tie.Need-loop-again Inv-loop μ-loop
 loop-again c =
     let l = c .before .before in
@@ -40,13 +24,13 @@ loop-again c =
 
 returns : tie.Need-returns Inv-loop μ-loop
 returns c =
-    let l = c .before in
-    let a = l .before .before .args in
-    let all : l .loop .i ≡ a .count = omega (arith, l .loop .inv) in
-    l .loop .inv .1 ∙ ap (λ (k : ℕ). zerosAfter 20 (listed (passVolume (a .prover) (a .s .now)) k 1)) all
+    let all : c .before .loop .i ≡ c .before .before .before .args .count = omega (arith, c .before .loop .inv) in
+    cc
 
 pub collect-spec : {M : Type 1} → statement M
+unfolding listed zerosAfter
 collect-spec =
     tie.close
-    (tie.spec Inv-loop μ-loop loop-holds (search needs) cast-find-volume find-volume-requires mul-volumes array-write-volumes (search needs)
-    (λ c. omega arith) loop-again returns)
+    (tie.spec Inv-loop μ-loop (λ c. (omega arith, refl)) (search needs) (λ c. omega (arith, c .before .before .before .pre .1))
+    (λ c κs. c .before .before .before .pre .0) (λ c. omega (arith, c .before .before .before .before .pre .1))
+    (λ c. omega (arith, c .before .before .before .before .pre .1)) (search needs) (λ c. omega arith) loop-again returns)

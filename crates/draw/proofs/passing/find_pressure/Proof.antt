@@ -1,5 +1,5 @@
 -- `draw::passing::find_pressure` meets its contract. The loop's invariant: the pass's first fill is the first from record i on.
-use mathlib.Core.Path.{_≡_, refl, sym, ap, _∙_}
+use mathlib.Core.Path.{_≡_, refl, sym, ap}
 use Prim.Native.Nat.{_/_, _<_, _-_}
 use native.Mathlib.Omega.{arith}
 use borrow.Author.Needs.{needs}
@@ -10,7 +10,6 @@ use Rattle.octets.proofs.FirstToLast.{places, start, done, place-hit, place-nex
 use Rattle.draw.specs.Fill.{fillAt}
 use Rattle.octets.specs.Records.{recordsIn}
 use Rattle.draw.specs.Passes.{passPressure, pressureAt, isOf}
-use Rattle.draw.specs.declared.FillRecord.{FillRecord}
 use Rattle.draw.proofs.Fields.{fields}
 use Rattle.draw.proofs.Volumes.{of-pass, not-of-pass}
 use Rattle.draw.proofs.passing.find_pressure.Statement.{statement}
@@ -22,13 +21,6 @@ Inv-loop s pass fills i₀ i = firstPlace (isOf s pass) fills 0 ≡ firstPlace (
 abbrev μ-loop : tie.MeasureT-loop
 μ-loop s pass fills i₀ i = fills - i
 
-loop-holds : tie.Need-loop-holds Inv-loop μ-loop
-loop-holds c = start places (placeIf (isOf (c .before .args .s .now) (c .before .args .pass))) (length (c .before .args .s .now) / 32)
-
-decode-requires : tie.Need-decode-requires Inv-loop μ-loop
-unfolding recordsIn
-decode-requires c κs = let s = c .before .before .before in omega (arith, s .pre .0)
-
 returns : tie.Need-returns Inv-loop μ-loop
 unfolding passPressure recordsIn
 returns c =
@@ -36,8 +28,10 @@ returns c =
     let l = d .before .before in
     let s = l .before .before in
     let a = s .args in
-    let h : l .loop .i < length (a .s .now) / 32 = omega arith in
-    (ap (λ (f : FillRecord). f .pressure) (d .decode .ensures) ∙ sym (ap (pressureAt (a .s .now)) (place-hit (isOf (a .s .now) (a .pass)) (length (a .s .now) / 32) (l .loop .i) h (of-pass (a .s .now) (l .loop .i) (d .decode .ensures) (c .if1 .taken)) (l .loop .inv))), ap (λ (f : FillRecord). pressureOk (f .pressure)) (d .decode .ensures) ∙ fields (fillAt (a .s .now) (l .loop .i)) (s .pre .1 (l .loop .i) h) .pressure)
+    let records = a .s .now in
+    let h : l .loop .i < length records / 32 = omega arith in
+    let place = place-hit (isOf records (a .pass)) (length records / 32) (l .loop .i) h (of-pass records (l .loop .i) (d .decode .ensures) (c .if1 .taken)) (l .loop .inv) in
+    (rw place (cc), rw (d .decode .ensures) (fields (fillAt records (l .loop .i)) (s .pre .1 (l .loop .i) h) .pressure))
 
 loop-again : tie.Need-loop-again Inv-loop μ-loop
 loop-again c =
@@ -54,4 +48,9 @@ returns-2 c =
     (sym (ap (pressureAt (a .s .now)) (done places (placeIf (isOf (a .s .now) (a .pass))) (length (a .s .now) / 32) (l .loop .i) (omega arith) (l .loop .inv))), refl)
 
 pub find-pressure-spec : {M : Type 1} → statement M
-find-pressure-spec = tie.close (tie.spec Inv-loop μ-loop loop-holds decode-requires returns (search needs) (λ c. omega arith) loop-again returns-2)
+unfolding recordsIn
+find-pressure-spec =
+    tie.close
+    (tie.spec Inv-loop μ-loop
+    (λ c. start places (placeIf (isOf (c .before .args .s .now) (c .before .args .pass))) (length (c .before .args .s .now) / 32))
+    (λ c κs. let s = c .before .before .before in omega (arith, s .pre .0)) returns (search needs) (λ c. omega arith) loop-again returns-2)
