@@ -6,13 +6,11 @@ use mathlib.Core.List.{List, []}
 use Prim.Native.Nat.{ℕ, _+_, _*_, _-_}
 use native.Mathlib.Omega.{arith}
 use borrow.Author.Tests.{ne-eqb}
-use lib.Dec.{eqb}
 use lib.ListN.{length, take, drop, length-take, length-drop}
-use Rattle.refusals.specs.Told.{Told, done, refused, Fault, fine, demand, unless}
+use Rattle.refusals.specs.Told.{Told, done, refused, Fault, unless}
 use Rattle.refusals.proofs.Laws.{demand-holds}
 use Rattle.factors.specs.declared.Prover.{Prover}
 use Rattle.group.specs.Repeatability.{nineUnless}
-use Rattle.octets.specs.Records.{recordsIn}
 use Rattle.report.specs.Judged.{reportOf}
 use Rattle.report.specs.declared.Report.{Report}
 use Rattle.proving.specs.Judging.{inputFault}
@@ -60,7 +58,7 @@ module _ (request : ℕ) (prover : Prover) (k limit : ℕ) (s : List ℕ) (asked
 
   -- so they are not empty
   pub whole-when-done : {r : Report} → jobOf request prover k limit s 32 ≡ done r → length (acceptedOf prover k limit s) ≡ 160
-  unfolding acceptedOf recordsIn
+  unfolding acceptedOf
   whole-when-done is =
       let b = done-begins is in
       let f : FoundAt prover k limit s (b .place) = found-at prover k limit s (b .found) in

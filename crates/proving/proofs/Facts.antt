@@ -17,7 +17,7 @@ use Rattle.ranges.specs.Table.{runsOk, kFactorOk, volumeOk, runFactorOk}
 use Rattle.ranges.proofs.Laws.{both-first, both-second, both-true, within-low, within-high, within-true}
 use Rattle.factors.specs.Prover.{proverOk}
 use Rattle.factors.specs.declared.Prover.{Prover}
-use Rattle.group.proofs.Groups.{FirstGroup, first-found}
+use Rattle.group.proofs.Groups.{first-found}
 use Rattle.group.proofs.Listed.{listed-value, listed-length}
 use Rattle.report.specs.Record.{listOf}
 use Rattle.report.specs.Judged.{factorsOk, firstOk, jobOk, writeOf}
@@ -26,7 +26,7 @@ use Rattle.run.specs.Record.{runAt, runOk}
 use Rattle.run.specs.Figures.{figuresOf}
 use Rattle.run.specs.Answers.{figuresFault}
 use Rattle.proving.specs.Judging.{runsIn, sizeOk, settingsFault, recordFault, runFault, inputFault}
-use Rattle.proving.specs.Job.{factorAt, factorsOf, firstFive, foundOf, fiveAt, reportAt}
+use Rattle.proving.specs.Job.{HoldsAll, factorAt, factorsOf, firstFive, foundOf, fiveAt, reportAt}
 use Rattle.proving.proofs.Laws.{reached}
 
 pub record Settings (prover : Prover) (k size : ℕ) : Type 0 where
@@ -68,11 +68,11 @@ pub record FoundAt (prover : Prover) (k limit : ℕ) (s : List ℕ) (at : ℕ) :
   pub settled : Settings prover k (length s)
   pub judged : inputFault prover k limit s ≡ fine
   pub first : firstFive prover k limit s ≡ some at
-  pub inside : at + 5 ≤ runsIn s
+  pub inside : at + 5 ≤ length s / 32
   pub fit : (i : ℕ) → i < runsIn s → runFactorOk (factorAt prover k s i) ≡ true
 
 pub found-at : (prover : Prover) (k limit : ℕ) (s : List ℕ) {at : ℕ} → foundOf prover k limit s ≡ done at → FoundAt prover k limit s at
-unfolding foundOf inputFault firstFive factorsOf
+unfolding foundOf inputFault firstFive factorsOf recordsIn
 found-at prover k limit s is =
     let r = reached (inputFault prover k limit s) (firstFive prover k limit s) (λ at. at) is in
     let five = r .first ∙ ap some (r .gives) in
@@ -92,7 +92,7 @@ unfolding factorsOf
 listed-factor prover k s j h = listed-value (factorAt prover k s) (runsIn s) 0 j h ∙ ap (factorAt prover k s) (omega arith)
 
 -- five of them, from a place that leaves room
-pub five-listed : (prover : Prover) (k : ℕ) (s values : List ℕ) (at : ℕ) → at + 5 ≤ runsIn s → ((i : ℕ) → i < runsIn s → getD values i 0 ≡ factorAt prover k s i) → fiveAt values at ≡ fiveAt (factorsOf prover k s) at
+pub five-listed : (prover : Prover) (k : ℕ) (s values : List ℕ) (at : ℕ) → at + 5 ≤ runsIn s → HoldsAll values prover k s → fiveAt values at ≡ fiveAt (factorsOf prover k s) at
 unfolding fiveAt
 five-listed prover k s values at room each =
     λ i. record { one = same at (omega arith) i; two = same (at + 1) (omega arith) i; three = same (at + 2) (omega arith) i; four = same (at + 3) (omega arith) i; five = same (at + 4) (omega arith) i }
@@ -101,16 +101,18 @@ five-listed prover k s values at room each =
     same j h = each j h ∙ sym (listed-factor prover k s j h)
 
 -- the report of a job that found its five can be written
-pub written : (request : ℕ) (prover : Prover) (k limit : ℕ) (s : List ℕ) {at : ℕ} → (request ≡ 0 → ⊥) → FoundAt prover k limit s at → writeOf 32 request (runsIn s) (at + 1) (fiveAt (factorsOf prover k s) at) ≡ done (reportAt request prover k s at)
+pub written : (request : ℕ) (prover : Prover) (k limit : ℕ) (s : List ℕ) {at : ℕ} → (request ≡ 0 → ⊥) → FoundAt prover k limit s at
+    → writeOf 32 request (runsIn s) (at + 1) (fiveAt (factorsOf prover k s) at) ≡ done (reportAt request prover k s at)
 unfolding jobOk firstOk factorsOk listOf reportAt fiveAt runsOk recordsIn
 written request prover k limit s {at} asked found =
     write-yes 32 request (runsIn s) (at + 1) (fiveAt (factorsOf prover k s) at) refl asked
     (both-true (within-true 5 20 (length s / 32) (found .settled .least) (found .settled .most))
     (both-true (both-true (le-leb 1 (at + 1) (omega arith)) (le-leb (at + 1 + 4) (length s / 32) (omega (arith, found .inside))))
-    (both-true (in-range at (omega arith)) (both-true (in-range (at + 1) (omega arith)) (both-true (in-range (at + 2) (omega arith)) (both-true (in-range (at + 3) (omega arith)) (both-true (in-range (at + 4) (omega arith)) refl)))))))
+    (both-true (in-range at (omega arith)) (both-true (in-range (at + 1) (omega arith)) (both-true (in-range (at + 2) (omega arith))
+    (both-true (in-range (at + 3) (omega arith)) (both-true (in-range (at + 4) (omega arith)) refl)))))))
   where
     in-range : (j : ℕ) → j < at + 5 → runFactorOk (getD (factorsOf prover k s) j 0) ≡ true
-    in-range j h = let inside : j < runsIn s = omega (arith, found .inside) in ap runFactorOk (listed-factor prover k s j inside) ∙ found .fit j inside
+    in-range j h = let inside : j < length s / 32 = omega (arith, found .inside) in ap runFactorOk (listed-factor prover k s j inside) ∙ found .fit j inside
 
 -- a factor in range fits the report's 16 bits
 pub factor-small : {x : ℕ} → runFactorOk x ≡ true → x ≤ 12000

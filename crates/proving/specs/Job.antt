@@ -2,7 +2,8 @@
 use mathlib.Core.Bool.{not}
 use mathlib.Core.List.{List, []}
 use mathlib.Core.Option.{Option}
-use Prim.Native.Nat.{ℕ, _+_, _*_}
+use mathlib.Core.Path.{_≡_}
+use Prim.Native.Nat.{ℕ, _+_, _*_, _<_}
 use lib.Dec.{eqb}
 use lib.ListN.{getD, take, drop}
 use Rattle.refusals.specs.Told.{Told, done, refused, demand, orElse, unless}
@@ -19,6 +20,14 @@ use Rattle.proving.specs.Judging.{runsIn, inputFault}
 -- the factor of the run at place i, counted from 0
 unfoldable pub factorAt : Prover → ℕ → List ℕ → ℕ → ℕ
 factorAt prover k s i = figuresOf prover k (runAt runSize s i) .factor
+
+-- the first n values are the factors of the first n runs
+abbrev pub HoldsFactors : List ℕ → ℕ → Prover → ℕ → List ℕ → Type 0
+HoldsFactors values n prover k s = (i : ℕ) → i < n → getD values i 0 ≡ factorAt prover k s i
+
+-- and so for all runs
+abbrev pub HoldsAll : List ℕ → Prover → ℕ → List ℕ → Type 0
+HoldsAll values prover k s = HoldsFactors values (runsIn s) prover k s
 
 -- the factors of all runs
 unfoldable pub factorsOf : Prover → ℕ → List ℕ → List ℕ

@@ -12,8 +12,8 @@ ghost use Rattle.group.specs.Repeatability.{firstGroup, nineUnless};
 ghost use Rattle.report.specs.Record.{bytesOfReport};
 ghost use Rattle.report.specs.Judged.{told};
 ghost use Rattle.run.specs.Record.{runSize, runAt, runOk};
-ghost use Rattle.proving.specs.Judging.{runsIn, settingsFault, recordFault, runFault, inputFault};
-ghost use Rattle.proving.specs.Job.{factorAt, foundOf, fiveAt, jobOf, acceptedOf};
+ghost use Rattle.proving.specs.Judging.{settingsFault, recordFault, runFault, inputFault};
+ghost use Rattle.proving.specs.Job.{HoldsFactors, HoldsAll, foundOf, fiveAt, jobOf, acceptedOf};
 ghost use Rattle.proving.specs.Answers.{refusedIn, toldFound};
 use factors::Prover;
 use group::Group;
@@ -78,7 +78,7 @@ fn judge_records(records: &[u8], count: usize) -> Verdict
 // The runs' factors, first to last. A run that has no factor ends the job with that run's refusal.
 fn work_out_runs(prover: Prover, k: u32, records: &[u8], count: usize) -> Runs
     requires { ⌜ (proverOk prover ≡ true) × (kFactorOk k ≡ true) × (count ≤ 20) × ((i : ℕ) → i < count → runOk (runAt runSize (now records) i) ≡ true) ⌝ }
-    ensures { λ r. ⌜ (faultOf (r .verdict) ≡ scan (runFault prover k (now (records .entry))) count 0) × (length (r .factors) ≡ 20) × (faultOf (r .verdict) ≡ fine → (i : ℕ) → i < count → getD (r .factors) i 0 ≡ factorAt prover k (now (records .entry)) i) ⌝ }
+    ensures { λ r. ⌜ (faultOf (r .verdict) ≡ scan (runFault prover k (now (records .entry))) count 0) × (length (r .factors) ≡ 20) × (faultOf (r .verdict) ≡ fine → HoldsFactors (r .factors) count prover k (now (records .entry))) ⌝ }
 {
     let mut values = [0u64; 20];
     let mut i: usize = 0;
@@ -131,7 +131,7 @@ fn judge_settings(prover: Prover, k: u32, limit: u16, size: usize) -> Verdict
 
 // All that is judged before a group is looked for.
 fn judge_input(prover: Prover, k: u32, limit: u16, records: &[u8]) -> Runs
-    ensures { λ r. ⌜ (faultOf (r .verdict) ≡ inputFault prover k limit (now (records .entry))) × (length (r .factors) ≡ 20) × (faultOf (r .verdict) ≡ fine → (i : ℕ) → i < runsIn (now (records .entry)) → getD (r .factors) i 0 ≡ factorAt prover k (now (records .entry)) i) ⌝ }
+    ensures { λ r. ⌜ (faultOf (r .verdict) ≡ inputFault prover k limit (now (records .entry))) × (length (r .factors) ≡ 20) × (faultOf (r .verdict) ≡ fine → HoldsAll (r .factors) prover k (now (records .entry))) ⌝ }
 {
     let verdict = judge_settings(prover, k, limit, records.len());
     let Verdict::Fine = verdict else {
@@ -163,7 +163,7 @@ fn seek(values: &[u64], limit: u16) -> Found
 }
 
 fn find_five(prover: Prover, k: u32, limit: u16, records: &[u8]) -> Five
-    ensures { λ r. ⌜ (toldFound (r .found) ≡ foundOf prover k limit (now (records .entry))) × (length (r .factors) ≡ 20) × ((at : ℕ) → toldFound (r .found) ≡ done at → (i : ℕ) → i < runsIn (now (records .entry)) → getD (r .factors) i 0 ≡ factorAt prover k (now (records .entry)) i) ⌝ }
+    ensures { λ r. ⌜ (toldFound (r .found) ≡ foundOf prover k limit (now (records .entry))) × (length (r .factors) ≡ 20) × ((at : ℕ) → toldFound (r .found) ≡ done at → HoldsAll (r .factors) prover k (now (records .entry))) ⌝ }
 {
     let runs = judge_input(prover, k, limit, records);
     let factors = runs.factors;

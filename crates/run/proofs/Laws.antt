@@ -6,7 +6,7 @@ use Prim.Native.Nat.{ℕ, _+_, _≤_}
 use native.Mathlib.Nat.{mul-le-mul}
 use native.Mathlib.Omega.{arith}
 use lib.ListN.{length}
-use Rattle.refusals.specs.Told.{fine, demand, demandAt, orElse}
+use Rattle.refusals.specs.Told.{fine, demand}
 use Rattle.refusals.proofs.Laws.{refusal-one, done-one, refused-number, refused-record, demand-was, demandAt-was, orElse-fine-first, orElse-fine-next}
 use Rattle.octets.specs.Octets.{wordAt, longAt, signedAt, signedOf}
 use Rattle.octets.proofs.Laws.{number-past}

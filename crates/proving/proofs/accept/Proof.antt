@@ -9,7 +9,6 @@ use Rattle.refusals.specs.Told.{Told, done}
 use Rattle.proving.proofs.Facts.{FoundAt, found-at}
 use Rattle.proving.specs.Answers.{toldFound}
 use Rattle.proving.specs.Job.{foundOf, acceptedBy, acceptedOf}
-use Rattle.octets.specs.Records.{recordsIn}
 use Rattle.proving.proofs.accept.Statement.{statement}
 use Rattle.proving.proofs.accept.Tie as tie
 
@@ -23,7 +22,6 @@ is : (c : tie.After-known-told) → foundOf (begin c .args .prover) (begin c .ar
 is c = sym (c .before .before .before .find-five .ensures .0) ∙ ap toldFound (c .before .found .given .1)
 
 room : (c : tie.After-known-told) → 32 * place c + 160 ≤ length (now (begin c .args .records))
-unfolding recordsIn
 room c = let f : FoundAt _ _ _ (now (begin c .args .records)) (place c) = found-at _ _ _ _ (is c) in omega (arith, f .inside, f .settled .whole)
 
 returns : tie.Need-returns

@@ -1,7 +1,6 @@
 -- `proving::judge_input` meets its contract: what the settings leave, the records decide, and then the runs.
 use mathlib.Core.Path.{_≡_, refl, ap, sym, _∙_}
 use Prim.Native.Nat.{_/_}
-use native.Mathlib.Omega.{arith}
 use borrow.Author.Needs.{needs}
 use denote.Ref.{now}
 use lib.ListN.{length}

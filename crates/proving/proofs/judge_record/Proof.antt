@@ -20,4 +20,7 @@ returns c =
     c .or-else .ensures ∙ (λ i. orElse (five i) (two i))
 
 pub judge-record-spec : {M : Type 1} → statement M
-judge-record-spec = tie.close (tie.spec (search needs) (search needs) (search needs) (search needs) (search needs) (search needs) (search needs) (search needs) (search needs) (search needs) (search needs) returns)
+judge-record-spec =
+    tie.close
+    (tie.spec (search needs) (search needs) (search needs) (search needs) (search needs) (search needs) (search needs) (search needs) (search needs)
+    (search needs) (search needs) returns)

@@ -26,4 +26,7 @@ returns c =
     c .or-else3 .ensures ∙ (λ i. orElse (one i) (rest i))
 
 pub judge-settings-spec : {M : Type 1} → statement M
-judge-settings-spec = tie.close (tie.spec (search needs) (search needs) (search needs) (search needs) (search needs) (search needs) (search needs) (search needs) (search needs) (search needs) (search needs) returns)
+judge-settings-spec =
+    tie.close
+    (tie.spec (search needs) (search needs) (search needs) (search needs) (search needs) (search needs) (search needs) (search needs) (search needs)
+    (search needs) (search needs) returns)

@@ -8,7 +8,7 @@ use borrow.Author.Needs.{needs}
 use borrow.Author.Tests.{eqb-true, eqb-false, not-true}
 use denote.Ref.{now}
 use lib.Dec.{eqb}
-use lib.ListN.{length, getD}
+use lib.ListN.{length}
 use Rattle.refusals.proofs.Laws.{demand-was, orElse-fine-first, orElse-fine-next}
 use Rattle.refusals.specs.Told.{Told, done, Fault, fine, demand, orElse, unless, leftBy}
 use Rattle.refusals.specs.Verdict.{faultOf}
@@ -20,103 +20,82 @@ use Rattle.report.specs.declared.Report.{Report}
 use Rattle.proving.proofs.Laws.{refused-alike}
 use Rattle.proving.proofs.Facts.{FoundAt, found-at, five-listed, written, factor-small}
 use Rattle.proving.specs.Answers.{toldFound}
-use Rattle.proving.specs.Job.{factorAt, firstFive, foundOf, reportAt, jobOf}
-use Rattle.proving.specs.Judging.{runsIn, inputFault}
+use Rattle.proving.specs.Job.{HoldsAll, firstFive, foundOf, reportAt, jobOf}
+use Rattle.proving.specs.Judging.{inputFault}
 use Rattle.proving.proofs.prove.Statement.{statement}
 use Rattle.proving.proofs.prove.Tie as tie
 
--- 14 and 22 are judged
-abbrev Front : Type 0
-Front = tie.After-or-else
-
-abbrev start : Front → tie.Start
+abbrev start : tie.After-or-else → tie.Start
 start c = c .before .before .before .before .before
 
-abbrev records : Front → List ℕ
+abbrev records : tie.After-or-else → List ℕ
 records c = now (start c .args .records)
 
-abbrev buffer : Front → List ℕ
+abbrev buffer : tie.After-or-else → List ℕ
 buffer c = now (start c .args .buffer)
 
-abbrev input : Front → Fault
+abbrev input : tie.After-or-else → Fault
 input c = inputFault (start c .args .prover) (start c .args .k) (start c .args .limit) (records c)
 
-abbrev job : Front → Told Report
+abbrev job : tie.After-or-else → Told Report
 job c = jobOf (start c .args .request) (start c .args .prover) (start c .args .k) (start c .args .limit) (records c) (length (buffer c))
 
-abbrev report : Front → ℕ → Report
+abbrev report : tie.After-or-else → ℕ → Report
 report c = reportAt (start c .args .request) (start c .args .prover) (start c .args .k) (records c)
 
 -- what the job is once 14 and 22 are known
-jobBy : Front → Fault → Told Report
+jobBy : tie.After-or-else → Fault → Told Report
 jobBy c f = unless f (unless (input c) (nineUnless (firstFive (start c .args .prover) (start c .args .k) (start c .args .limit) (records c)) (report c)))
 
-judges : (c : Front) → faultOf (c .or-else .result) ≡ orElse (demand (eqb (length (buffer c)) 32) 14) (demand (not (eqb (start c .args .request) 0)) 22)
+judges : (c : tie.After-or-else) → faultOf (c .or-else .result) ≡ orElse (demand (eqb (length (buffer c)) 32) 14) (demand (not (eqb (start c .args .request) 0)) 22)
 judges c = c .or-else .ensures ∙ (λ i. orElse (c .before .before .demand .ensures i) (c .before .demand2 .ensures i))
 
-job-by : (c : Front) {f : Fault} → faultOf (c .or-else .result) ≡ f → job c ≡ jobBy c f
+job-by : (c : tie.After-or-else) {f : Fault} → faultOf (c .or-else .result) ≡ f → job c ≡ jobBy c f
 unfolding jobBy jobOf
 job-by c is = ap (jobBy c) (sym (judges c) ∙ is)
 
--- and neither is given
-abbrev Sought : Type 0
-Sought = tie.After-find-five
-
-abbrev front : Sought → Front
+abbrev front : tie.After-find-five → tie.After-or-else
 front c = c .before .before .before
 
-clear : (c : Sought) → faultOf (front c .or-else .result) ≡ fine
+clear : (c : tie.After-find-five) → faultOf (front c .or-else .result) ≡ fine
 clear c = ap faultOf (c .before .enum-told .given .1)
 
-sized : (c : Sought) → length (buffer (front c)) ≡ 32
+sized : (c : tie.After-find-five) → length (buffer (front c)) ≡ 32
 sized c = eqb-true _ 32 (demand-was _ 14 (orElse-fine-first (demand (eqb (length (buffer (front c))) 32) 14) _ (sym (judges (front c)) ∙ clear c)))
 
-asked : (c : Sought) → start (front c) .args .request ≡ 0 → ⊥
+asked : (c : tie.After-find-five) → start (front c) .args .request ≡ 0 → ⊥
 asked c = eqb-false _ 0 (not-true _ (demand-was _ 22 (orElse-fine-next (demand (eqb (length (buffer (front c))) 32) 14) _ (sym (judges (front c)) ∙ clear c))))
 
--- a five is found
-abbrev At : Type 0
-At = tie.After-known-told
-
-abbrev sought : At → Sought
+abbrev sought : tie.After-known-told → tie.After-find-five
 sought c = c .before .before .before
 
-abbrev place : At → ℕ
+abbrev place : tie.After-known-told → ℕ
 place c = c .before .found .given .0 .0
 
-facts : (c : At) → FoundAt (start (front (sought c)) .args .prover) (start (front (sought c)) .args .k) (start (front (sought c)) .args .limit) (records (front (sought c))) (place c)
+facts : (c : tie.After-known-told) → FoundAt (start (front (sought c)) .args .prover) (start (front (sought c)) .args .k) (start (front (sought c)) .args .limit) (records (front (sought c))) (place c)
 facts c = found-at _ _ _ _ (sym (sought c .find-five .ensures .0) ∙ ap toldFound (c .before .found .given .1))
 
-each : (c : At) (i : ℕ) → i < runsIn (records (front (sought c))) → getD (sought c .find-five .result .factors) i 0 ≡ factorAt (start (front (sought c)) .args .prover) (start (front (sought c)) .args .k) (records (front (sought c))) i
+each : (c : tie.After-known-told) → HoldsAll (sought c .find-five .result .factors) (start (front (sought c)) .args .prover) (start (front (sought c)) .args .k) (records (front (sought c)))
 each c = sought c .find-five .ensures .2 (place c) (ap toldFound (c .before .found .given .1))
-
-cast-runs : tie.Need-cast-runs
-cast-runs c = omega (arith, facts (c .before) .settled .most)
-
-add-write : tie.Need-add-write
-unfolding recordsIn
-add-write c = omega (arith, facts (c .before) .inside, facts (c .before) .settled .most)
-
-cast-write : tie.Need-cast-write
-unfolding recordsIn
-cast-write c = omega (arith, facts (c .before) .inside, facts (c .before) .settled .most)
 
 take-five-requires : tie.Need-take-five-requires
 unfolding recordsIn
 take-five-requires c κs =
     let d = c .before in
     let f = facts d in
-    (omega (arith, f .inside, f .settled .most), λ i h. let room : place d + i < runsIn (records (front (sought d))) = omega (arith, f .inside) in omega (arith, each d (place d + i) room, factor-small (f .fit (place d + i) room)))
+    let room : (i : ℕ) → i < 5 → place d + i < length (records (front (sought d))) / 32 = λ i h. omega (arith, f .inside) in
+    (omega (arith, f .inside, f .settled .most), λ i h. omega (arith, each d (place d + i) (room i h), factor-small (f .fit (place d + i) (room i h))))
 
-job-done : (c : At) → job (front (sought c)) ≡ done (report (front (sought c)) (place c))
+job-done : (c : tie.After-known-told) → job (front (sought c)) ≡ done (report (front (sought c)) (place c))
 unfolding jobBy
 job-done c = job-by (front (sought c)) (clear (sought c)) ∙ (λ i. unless (facts c .judged i) (nineUnless (facts c .first i) (report (front (sought c)))))
 
 -- what the writer was handed is the job's report
-abbrev handed : tie.After-write → At
+abbrev handed : tie.After-write → tie.After-known-told
 handed c = c .before .before .before .before
 
-wrote : (c : tie.After-write) → writeOf (length (buffer (front (sought (handed c))))) (start (front (sought (handed c))) .args .request) (length (records (front (sought (handed c)))) / 32) (place (handed c) + 1) (c .before .before .take-five .result)
+wrote : (c : tie.After-write)
+    → writeOf (length (buffer (front (sought (handed c))))) (start (front (sought (handed c))) .args .request) (length (records (front (sought (handed c)))) / 32) (place (handed c) + 1) (c .before .before .take-five .result)
     ≡ done (report (front (sought (handed c))) (place (handed c)))
 unfolding recordsIn
 wrote c =
@@ -125,7 +104,8 @@ wrote c =
     let a = start (front e) .args in
     let f = facts d in
     let five = c .before .before .take-five .ensures ∙ five-listed (a .prover) (a .k) (records (front e)) (e .find-five .result .factors) (place d) (f .inside) (each d) in
-    (λ i. writeOf (sized e i) (a .request) (length (records (front e)) / 32) (place d + 1) (five i)) ∙ written (a .request) (a .prover) (a .k) (a .limit) (records (front e)) (asked e) f
+    (λ i. writeOf (sized e i) (a .request) (length (records (front e)) / 32) (place d + 1) (five i))
+    ∙ written (a .request) (a .prover) (a .k) (a .limit) (records (front e)) (asked e) f
 
 returns : tie.Need-returns
 returns c =
@@ -154,5 +134,7 @@ returns-3 c =
 pub prove-spec : {M : Type 1} → statement M
 prove-spec =
     tie.close
-    (tie.spec (search needs) (search needs) (search needs) (search needs) (search needs) (search needs) cast-runs add-write cast-write take-five-requires
-    (search needs) (search needs) (search needs) (search needs) returns returns-2 returns-3)
+    (tie.spec (search needs) (search needs) (search needs) (search needs) (search needs) (search needs)
+    (λ c. omega (arith, facts (c .before) .settled .most)) (λ c. omega (arith, facts (c .before) .inside, facts (c .before) .settled .most))
+    (λ c. omega (arith, facts (c .before) .inside, facts (c .before) .settled .most)) take-five-requires (search needs) (search needs) (search needs)
+    (search needs) returns returns-2 returns-3)

@@ -90,4 +90,7 @@ returns-2 c =
     (sym (done faults (runFault (a .prover) (a .k) (now (a .records))) (a .count) (l .i) (c .loop-test .left) (l .inv .2)), l .inv .1, λ clear j h. l .inv .3 j (omega arith))
 
 pub work-out-runs-spec : {M : Type 1} → statement M
-work-out-runs-spec = tie.close (tie.spec Inv-loop μ-loop loop-holds (search needs) (λ c. omega arith) (λ c. omega arith) (search needs) (search needs) (λ c. search needs) (search needs) returns (λ c. omega arith) (λ c. omega arith) (λ c. omega arith) (λ c. omega arith) loop-again returns-2)
+work-out-runs-spec =
+    tie.close
+    (tie.spec Inv-loop μ-loop loop-holds (search needs) (λ c. omega arith) (λ c. omega arith) (search needs) (search needs) (λ c. search needs)
+    (search needs) returns (λ c. omega arith) (λ c. omega arith) (λ c. omega arith) (λ c. omega arith) loop-again returns-2)

@@ -19,23 +19,19 @@ use Rattle.run.specs.Figures.{steelCts, steelCps, correctedBy, atProver,
 use Rattle.run.proofs.find_figures.Statement.{statement}
 use Rattle.run.proofs.find_figures.Tie as tie
 
--- the steel's factors are found
-abbrev Steel : Type 0
-Steel = tie.After-value-or-zero2
-
-abbrev start : Steel → tie.Start
+abbrev start : tie.After-value-or-zero2 → tie.Start
 start c = c .before .before .before .before .before .before .before .before .before
 
-runs : (c : Steel) → RunFits (start c .args .run)
+runs : (c : tie.After-value-or-zero2) → RunFits (start c .args .run)
 runs c = run-fits (start c .args .run) (start c .pre .1)
 
-provers : (c : Steel) → ProverFits (start c .args .prover)
+provers : (c : tie.After-value-or-zero2) → ProverFits (start c .args .prover)
 provers c = prover-fits (start c .args .prover) (start c .pre .0)
 
-pressure : (c : Steel) → pressureOk (start c .args .run .prover .liquid .pressure) ≡ true
+pressure : (c : tie.After-value-or-zero2) → pressureOk (start c .args .run .prover .liquid .pressure) ≡ true
 pressure c = pressure-fits (start c .args .run .prover .liquid) (runs c .prover .liquid)
 
-cts-is : (c : Steel) → c .before .before .before .value-or-zero .result ≡ steelCts (start c .args .prover) (start c .args .run)
+cts-is : (c : tie.After-value-or-zero2) → c .before .before .before .value-or-zero .result ≡ steelCts (start c .args .prover) (start c .args .run)
 unfolding steelCts
 cts-is c =
     let f = c .before .before .before .before in
@@ -44,15 +40,15 @@ cts-is c =
     c .before .before .before .value-or-zero .ensures
     ∙ cts-value (f .cts .result) Four (a .prover .metal) (a .run .prover .temperature) (f .cts .ensures ∙ ap (ctsOf 4 (a .prover .metal)) read) (provers c .metal) (runs c .prover .temperature)
 
-cts-most : (c : Steel) → c .before .before .before .value-or-zero .result ≤ 20000
+cts-most : (c : tie.After-value-or-zero2) → c .before .before .before .value-or-zero .result ≤ 20000
 unfolding steelCts
 cts-most c = omega (arith, cts-is c, cts-small Four (start c .args .prover .metal) (start c .args .run .prover .temperature) (provers c .metal) (runs c .prover .temperature))
 
-cps-is : (c : Steel) → c .value-or-zero2 .result ≡ steelCps (start c .args .prover) (start c .args .run)
+cps-is : (c : tie.After-value-or-zero2) → c .value-or-zero2 .result ≡ steelCps (start c .args .prover) (start c .args .run)
 unfolding steelCps
 cps-is c = c .value-or-zero2 .ensures ∙ cps-value (c .before .cps .result) Four (start c .args .prover .pipe) (start c .args .run .prover .liquid .pressure) (c .before .cps .ensures) (provers c .pipe) (pressure c)
 
-cps-most : (c : Steel) → c .value-or-zero2 .result ≤ 20000
+cps-most : (c : tie.After-value-or-zero2) → c .value-or-zero2 .result ≤ 20000
 unfolding steelCps
 cps-most c = omega (arith, cps-is c, cps-small Four (start c .args .prover .pipe) (start c .args .run .prover .liquid .pressure) (provers c .pipe) (pressure c))
 
@@ -61,18 +57,10 @@ correct-requires c κs =
     let v = c .before .before .before .before in
     (provers v .base, omega arith, four-small _ _ _ _ (cts-most v) (cps-most v) (ctl-most (runs v .prover .ctl)) (c .before .before .before .find-cpl .ensures .1))
 
--- the prover's side is corrected
-abbrev Proved : Type 0
-Proved = tie.After-correct
-
-abbrev steel : Proved → Steel
+abbrev steel : tie.After-correct → tie.After-value-or-zero2
 steel c = c .before .before .before .before .before
 
--- and the meter's
-abbrev Metered : Type 0
-Metered = tie.After-correct2
-
-abbrev proved : Metered → Proved
+abbrev proved : tie.After-correct2 → tie.After-correct
 proved c = c .before .before .before .before .before
 
 correct-requires-2 : tie.Need-correct-requires-2
@@ -80,14 +68,14 @@ correct-requires-2 c κs =
     let v = steel (c .before .before .before .before) in
     (start v .pre .2, omega arith, two-small _ _ (ctl-most (runs v .meter .ctl)) (c .before .before .find-cpl2 .ensures .1))
 
-prover-is : (c : Proved) → c .correct .result ≡ atProver (start (steel c) .args .prover) (start (steel c) .args .run)
+prover-is : (c : tie.After-correct) → c .correct .result ≡ atProver (start (steel c) .args .prover) (start (steel c) .args .run)
 unfolding atProver
 prover-is c =
     let a = start (steel c) .args in
     let cpl = c .before .before .before .before .find-cpl .ensures .0 in
     c .correct .ensures .0 ∙ (λ i. correctedBy (a .prover .base) (cpl i) (cts-is (steel c) i ∷ cps-is (steel c) i ∷ a .run .prover .ctl ∷ cpl i ∷ []))
 
-meter-is : (c : Metered) → c .correct2 .result ≡ atMeter (start (steel (proved c)) .args .indicated) (start (steel (proved c)) .args .run)
+meter-is : (c : tie.After-correct2) → c .correct2 .result ≡ atMeter (start (steel (proved c)) .args .indicated) (start (steel (proved c)) .args .run)
 unfolding atMeter
 meter-is c =
     let a = start (steel (proved c)) .args in
@@ -106,5 +94,6 @@ returns c =
 pub find-figures-spec : {M : Type 1} → statement M
 find-figures-spec =
     tie.close
-    (tie.spec (search needs) (search needs) (search needs) (search needs) (λ c κs. runs c .prover .liquid) (search needs) (search needs) (search needs)
-    correct-requires (λ c κs. runs (steel (c .before)) .meter .liquid) (search needs) (search needs) correct-requires-2 (search needs) (search needs) (search needs) returns)
+    (tie.spec (search needs) (search needs) (search needs) (search needs) (λ c κs. runs c .prover .liquid) (search needs) (search needs)
+    (search needs) correct-requires (λ c κs. runs (steel (c .before)) .meter .liquid) (search needs) (search needs) correct-requires-2 (search needs)
+    (search needs) (search needs) returns)

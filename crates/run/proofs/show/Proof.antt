@@ -3,12 +3,13 @@ use mathlib.Core.Path.{_≡_, ap, sym, _∙_}
 use borrow.Author.Needs.{needs}
 use lib.Dec.{eqb}
 use lib.ListN.{length}
-use Rattle.refusals.specs.Told.{Fault, fine, demand, demandAt, orElse, unless}
+use Rattle.refusals.specs.Told.{Told, Fault, demand, demandAt, orElse, unless}
 use Rattle.refusals.specs.Verdict.{faultOf}
 use Rattle.refusals.proofs.Laws.{orElse-fine-first, orElse-fine-next}
 use Rattle.run.proofs.Laws.{given-fits}
 use Rattle.run.specs.Answers.{givenFault, figuresTold, shownOf}
-use Rattle.run.specs.Record.{runAt, unnamedOk}
+use Rattle.run.specs.Record.{runAt, runOk, unnamedOk}
+use Rattle.run.specs.declared.Figures.{Figures}
 use Rattle.run.specs.declared.Run.{Run}
 use Rattle.run.proofs.show.Statement.{statement}
 use Rattle.run.proofs.show.Tie as tie
@@ -19,43 +20,40 @@ judging c = c .before .before .before .before
 abbrev start : tie.After-or-else2 → tie.Start
 start c = judging c .before .before .before .before
 
+abbrev run : tie.After-or-else2 → Run
+run c = runAt 32 (start c .args .bytes .now) 0
+
+abbrev figures : tie.After-or-else2 → Told Figures
+figures c = figuresTold (start c .args .prover) (start c .args .k) (run c) 1
+
 judges : (c : tie.After-or-else2) → faultOf (c .or-else2 .result)
-    ≡ orElse (demand (eqb (length (start c .args .bytes .now)) 32) 1) (orElse (givenFault (start c .args .prover) (start c .args .k) (judging c .before .before .decode .result) 1) (demandAt (unnamedOk 32 (start c .args .bytes .now) 0) 2 1))
+    ≡ orElse (demand (eqb (length (start c .args .bytes .now)) 32) 1) (orElse (givenFault (start c .args .prover) (start c .args .k) (run c) 1) (demandAt (unnamedOk 32 (start c .args .bytes .now) 0) 2 1))
 unfolding unnamedOk
 judges c =
     let j = judging c in
+    let given = j .judge .ensures ∙ ap (λ (r : Run). givenFault (start c .args .prover) (start c .args .k) r 1) (j .before .before .decode .ensures) in
     let two = c .before .before .demand2 .ensures ∙ (λ i. demandAt (c .before .before .before .are-zero .ensures i) 2 1) in
-    c .or-else2 .ensures ∙ (λ i. orElse (j .before .demand .ensures i) ((c .before .or-else .ensures ∙ (λ k. orElse (j .judge .ensures k) (two k))) i))
-
--- what is judged, and then the figures, of the run as it was read
-read : (c : tie.After-or-else2) → unless (faultOf (c .or-else2 .result)) (figuresTold (start c .args .prover) (start c .args .k) (judging c .before .before .decode .result) 1) ≡ shownOf (start c .args .prover) (start c .args .k) (start c .args .bytes .now)
-unfolding shownOf
-read c =
-    let a = start c .args in
-    let s = a .bytes .now in
-    ap (λ (f : Fault). unless f (figuresTold (a .prover) (a .k) (judging c .before .before .decode .result) 1)) (judges c)
-    ∙ ap (λ (run : Run). unless (orElse (demand (eqb (length s) 32) 1) (orElse (givenFault (a .prover) (a .k) run 1) (demandAt (unnamedOk 32 s 0) 2 1))) (figuresTold (a .prover) (a .k) run 1)) (judging c .before .before .decode .ensures)
+    c .or-else2 .ensures ∙ (λ i. orElse (j .before .demand .ensures i) ((c .before .or-else .ensures ∙ (λ k. orElse (given k) (two k))) i))
 
 judge-figures-requires : tie.Need-judge-figures-requires
 judge-figures-requires c κs =
     let o = c .before .before in
     let a = start o .args in
-    let run = judging o .before .before .decode .result in
     let clear = orElse-fine-next (demand (eqb (length (a .bytes .now)) 32) 1) _ (sym (judges o) ∙ ap faultOf (c .enum-told .given .1)) in
-    given-fits (a .prover) (a .k) run 1 (orElse-fine-first (givenFault (a .prover) (a .k) run 1) _ clear)
+    let fits = given-fits (a .prover) (a .k) (run o) 1 (orElse-fine-first (givenFault (a .prover) (a .k) (run o) 1) _ clear) in
+    (fits .0, fits .1, ap runOk (judging o .before .before .decode .ensures) ∙ fits .2)
 
 returns : tie.Need-returns
+unfolding shownOf
 returns c =
     let d = c .before in
     let o = d .before .before in
-    let a = start o .args in
-    c .judge-figures .ensures ∙ sym (ap (λ (f : Fault). unless f (figuresTold (a .prover) (a .k) (judging o .before .before .decode .result) 1)) (ap faultOf (d .enum-told .given .1))) ∙ read o
+    c .judge-figures .ensures ∙ ap (λ (r : Run). figuresTold (start o .args .prover) (start o .args .k) r 1) (judging o .before .before .decode .ensures)
+    ∙ sym (ap (λ (f : Fault). unless f (figures o)) (sym (judges o) ∙ ap faultOf (d .enum-told .given .1)))
 
 returns-2 : tie.Need-returns-2
-returns-2 c =
-    let o = c .before .before .before in
-    let a = start o .args in
-    sym (ap (λ (f : Fault). unless f (figuresTold (a .prover) (a .k) (judging o .before .before .decode .result) 1)) (ap faultOf (c .before .verdict .given .1))) ∙ read o
+unfolding shownOf
+returns-2 c = let o = c .before .before .before in sym (ap (λ (f : Fault). unless f (figures o)) (sym (judges o) ∙ ap faultOf (c .before .verdict .given .1)))
 
 pub show-spec : {M : Type 1} → statement M
 show-spec =

@@ -1,10 +1,10 @@
 -- `run::work_out` meets its contract: what is given is judged first, and then the figures.
-use mathlib.Core.Path.{_≡_, ap, sym, _∙_}
+use mathlib.Core.Path.{ap, sym, _∙_}
 use borrow.Author.Needs.{needs}
 use Rattle.refusals.specs.Told.{Fault, unless}
 use Rattle.refusals.specs.Verdict.{faultOf}
 use Rattle.run.proofs.Laws.{given-fits}
-use Rattle.run.specs.Answers.{givenFault, figuresTold, workedOf}
+use Rattle.run.specs.Answers.{figuresTold, workedOf}
 use Rattle.run.proofs.work_out.Statement.{statement}
 use Rattle.run.proofs.work_out.Tie as tie
 
