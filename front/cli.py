@@ -34,18 +34,18 @@ def parser():
     prove = command("prove", commands.prove, "a proving job: the report with its meter factor", helps.PROVE)
     job_of(prove)
     writes(prove, "--record", "OUT", "write the 32-byte report record; nothing when refused")
-    writes(prove, "--worksheet", "OUT.csv", "write the job as a spreadsheet with live formulas")
+    writes(prove, "--worksheet", "OUT.xlsx", "write the job as a spreadsheet with live formulas; also OUT.csv")
     writes(prove, "--plot", "OUT.svg", "write a picture of the run factors and the limit's band")
     writes(prove, "--html", "OUT.html", "write the page with its plot for print, one sheet of Letter or A4")
 
     draw = command("draw", commands.draw, "a water draw: the prover's base volume", helps.DRAW)
     job_of(draw)
-    writes(draw, "--worksheet", "OUT.csv", "write the job as a spreadsheet with live formulas")
+    writes(draw, "--worksheet", "OUT.xlsx", "write the job as a spreadsheet with live formulas; also OUT.csv")
     writes(draw, "--html", "OUT.html", "write the page for print, one sheet of Letter or A4")
 
     ticket = command("ticket", commands.ticket, "a measurement ticket: gross and net volume", helps.TICKET)
     job_of(ticket)
-    writes(ticket, "--worksheet", "OUT.csv", "write the ticket as a spreadsheet with live formulas")
+    writes(ticket, "--worksheet", "OUT.xlsx", "write the ticket as a spreadsheet with live formulas; also OUT.csv")
     writes(ticket, "--html", "OUT.html", "write the ticket for print, one sheet of Letter or A4")
 
     live = command("live", commands.live, "a live reading: singles to tenths and psi", helps.LIVE)

@@ -5,7 +5,7 @@ import sys
 
 from . import book as books
 from . import draw_worksheet, figures, jobs, outputs, page, pages, plot, report_record, rework, short_pages
-from . import ticket_worksheet, worksheet
+from . import suffixes, ticket_worksheet, workbook, worksheet
 from . import worked as works
 from .badfile import BadFile
 from .hints import plain
@@ -47,7 +47,9 @@ def write_outputs(options, worked):
     if getattr(options, "html", None):
         outputs.write(options.html, pages.printed(worked))
     if getattr(options, "worksheet", None) and worked.has_figures:
-        outputs.write(options.worksheet, WORKSHEETS[worked.job.kind](worked).octets)
+        sheet = WORKSHEETS[worked.job.kind](worked)
+        is_book = suffixes.of(options.worksheet) == suffixes.WORKBOOK
+        outputs.write(options.worksheet, workbook.octets(sheet) if is_book else sheet.octets)
     if getattr(options, "plot", None) and worked.has_figures:
         outputs.write(options.plot, plot.draw(worked))
     if getattr(options, "record", None) and worked.answer:

@@ -1,4 +1,5 @@
-"""A sheet of labelled rows with live formulas, written as CSV. Rows have names, for formulas and tests to find them."""
+"""A sheet of labelled rows with live formulas, written as CSV, or by workbook for Excel. Rows have names, for formulas
+and tests to find them."""
 
 import csv
 import io
@@ -51,11 +52,16 @@ class Sheet:
     def __init__(self, title, job):
         self.rows = []
         self.places = {}
-        self.note(f"{title}: {job.path}")
-        self.note(f"SHA-256 of the job file {job.digest}, worked by {version.NAME}")
-        self.note("Figures are whole counts of the unit beside them; the last part has them with their points.")
+        # The rows that are headings of parts, and the decimals of those that have any.
+        self.headings, self.decimals = set(), {}
+        self.title = f"{title}: {job.path}"
+        self.origin = f"SHA-256 of the job file {job.digest}, worked by {version.NAME}"
+        about = "Figures are whole counts of the unit beside them; the last part has them with their points."
+        self.rows += [[text(words)] for words in (self.title, self.origin, about)]
 
     def note(self, *words):
+        """The heading of a part."""
+        self.headings.add(len(self.rows))
         self.rows.append([text(word) for word in words])
 
     def row(self, key, label, unit, how, cells):
@@ -118,6 +124,7 @@ class Sheet:
         cells = [self.cell(key, at) for at in columns]
         shown = [f'=IF(ISNUMBER({cell}),{cell}/{10**places},"none")' for cell in cells]
         self.row(f"read_{key}", label, unit, "", shown)
+        self.decimals[self.places[f"read_{key}"]] = places
 
     def whole(self, key):
         """All cells of a row."""

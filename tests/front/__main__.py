@@ -10,8 +10,8 @@ HERE = Path(__file__).resolve().parent
 sys.path[:0] = [str(HERE), str(HERE.parent), str(HERE.parents[1])]
 NAMES = (
     "examples", "badfiles", "faultlines", "spellings", "entryfiles", "damaged", "ranges", "reports", "spreads",
-    "readback", "outputs", "losses", "worksheets", "halves", "plots", "prints",
-    "reworks", "obstacles", "sessions",
+    "readback", "outputs", "losses", "worksheets", "workbooks", "halves", "plots", "prints", "reworks", "obstacles",
+    "sessions",
     "building", "helping", "readme", "sums",
 )  # fmt: skip
 
