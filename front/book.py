@@ -1,10 +1,9 @@
 """A session with the book of waiting requests: a step a line, and the four lines after each."""
 
-import sys
 from dataclasses import dataclass
 
 from .fields import HOLDS
-from .hints import plain
+from .hints import echo, plain
 from .program import Refused
 from .refusals import Explained
 
@@ -29,7 +28,7 @@ class BadStep(Exception):
 def number(word, place, what):
     least, most = HOLDS[place]
     if not (word.isascii() and word.isdigit() and len(word) <= 10 and least <= int(word) <= most):
-        raise BadStep(f"{word}: expected {what}")
+        raise BadStep(f"{echo(word)}: expected {what}")
     return int(word)
 
 
@@ -61,7 +60,7 @@ def step_of(text):
     name, *operands = text.split()
     wanted = {"request": 2, "withdraw": 2, "take": 0, "empty": 0, "load": 1 + SHIPPERS, "book": 0}
     if name not in wanted:
-        raise BadStep(f"{name}: expected one of {', '.join(wanted)}, help or quit")
+        raise BadStep(f"{echo(name)}: expected one of {', '.join(wanted)}, help or quit")
     if len(operands) != wanted[name]:
         expected = next(line for line in STEPS.splitlines() if line.startswith(name)).split("  ")[0]
         raise BadStep(f"expected: {expected}")
@@ -131,37 +130,28 @@ def do(step, program):
     return [told] * bool(told) + shown(*lines_of(program)), refused
 
 
-def session(source, name, program):
-    """The steps of a source; a keyboard is asked again after a line that is no step, a file ends there."""
-    keyboard = source.isatty()
-    if keyboard:
+def session(source, program, kept):
+    """The steps of a source; a keyboard is asked again after a line that is no step, any other source ends there."""
+
+    def load(text):
+        program.ask(*step_of(text).words)
+        return lines_of(program)[0] is not None
+
+    kept.begin(load)
+    if source.keyboard:
         print(STEPS)
     any_refused = False
-    for place, text in enumerate(prompted(source) if keyboard else source, 1):
-        text = text.strip()
-        if not text or text.startswith("#"):
-            continue
+    for place, text in source.steps():
         if text in ("quit", "exit"):
             break
-        if not keyboard:
-            print(f"> {plain(text)}")
+        if not source.keyboard:
+            print(f"> {echo(text)}")
         try:
             told, refused = ([STEPS], False) if text == "help" else do(step_of(text), program)
         except BadStep as bad:
-            if not keyboard:
-                print(f"{name}: line {place}: {plain(str(bad))}", file=sys.stderr)
-                return 2
+            if not source.keyboard:
+                raise source.bad({place: bad}) from bad
             told, refused = [plain(str(bad))], False
         any_refused = any_refused or refused
-        print("\n".join(told), flush=True)
-    return 1 if any_refused and not keyboard else 0
-
-
-def prompted(source):
-    while True:
-        print("book> ", end="", flush=True)
-        text = source.readline()
-        if not text:
-            print()
-            return
-        yield text
+        print("\n".join(told + kept.save(*lines_of(program))), flush=True)
+    return 1 if any_refused and not source.keyboard else 0

@@ -4,7 +4,7 @@ import argparse
 import os
 import sys
 
-from . import build, commands, helps, outputs, suffixes
+from . import build, commands, helps, outputs, suffixes, templates, version
 from .badfile import BadFile
 from .hints import echo
 from .outputs import NotWritten
@@ -23,6 +23,7 @@ class Plain(argparse.RawDescriptionHelpFormatter):
 
 def parser():
     top = argparse.ArgumentParser("endakuro", description=helps.ABOUT, epilog=helps.STATUS, formatter_class=Plain)
+    top.add_argument("--version", action=Version, help="show the version and the program's checksum")
     listed = top.add_subparsers(title="commands", metavar="COMMAND", required=True)
 
     def command(name, do, summary, about):
@@ -58,6 +59,7 @@ def parser():
 
     book = command("book", commands.book, "a session with the book of waiting requests", helps.BOOK)
     book.add_argument("session", nargs="?", metavar="SESSION.txt", help="the steps, a line each; else the keyboard")
+    book.add_argument("--keep", metavar="FILE", help="go on from the book of FILE, and keep it there")
 
     rework = command("rework", commands.rework_jobs, "many jobs: a CSV of results", helps.REWORK)
     rework.add_argument("jobs", metavar="JOBS", nargs="+", help="folders of job files, or job files")
@@ -65,7 +67,25 @@ def parser():
     seconds = {"type": seconds_of, "metavar": "SECONDS", "default": 30}
     rework.add_argument("--patience", help="how long a file may take before it is skipped (30)", **seconds)
     writes(rework, "--csv", "OUT.csv", "where results go (rework.csv)", "rework.csv")
+
+    new = command("new", commands.new, "a job file to begin with, that runs as it is", helps.NEW)
+    new.add_argument("kind", choices=templates.TEXTS, metavar="KIND", help=", ".join(templates.TEXTS))
+    new.add_argument("out", nargs="?", metavar="OUT.toml", default=outputs.STANDARD, help="where it goes, if not shown")
+    new.add_argument("--force", action="store_true", help="write over a file that is there already")
+
+    command("lines", commands.lines, "the line program itself: a line in, a line out", helps.LINES)
     return top
+
+
+class Version(argparse.Action):
+    """The version, and the checksum of the program, by which two machines are known to have the same."""
+
+    def __init__(self, *words, **named):
+        super().__init__(*words, nargs=0, default=argparse.SUPPRESS, **named)
+
+    def __call__(self, *_):
+        print("\n".join(version.lines()))
+        sys.exit(0)
 
 
 def seconds_of(word):

@@ -5,11 +5,11 @@ import sys
 
 from . import book as books
 from . import draw_worksheet, figures, jobs, outputs, page, pages, plot, report_record, rework, short_pages
-from . import suffixes, ticket_worksheet, workbook, worksheet
+from . import steps, suffixes, templates, ticket_worksheet, workbook, worksheet
 from . import worked as works
-from .badfile import BadFile
 from .hints import plain
-from .program import Refused
+from .kept_book import KeptBook, NoBook
+from .program import RUNNER, ProgramFailed, Refused
 
 DONE, REFUSED = 0, 1
 WORKSHEETS = {"prove": worksheet.build, "draw": draw_worksheet.build, "ticket": ticket_worksheet.build}
@@ -81,16 +81,26 @@ def read(options, program):
 
 
 def book(options, program):
-    if not options.session:
-        if not sys.stdin:
-            raise BadFile("standard input", "", "is closed: expected steps, or the name of a session file")
-        return books.session(sys.stdin, "standard input", program)
+    named = options.session not in (None, outputs.STANDARD)
+    outputs.check([options.session] if named else [], {"--keep": options.keep}, force=True)
+    source = steps.of_file(options.session) if named else steps.of_standard_input()
+    return books.session(source, program, KeptBook(options.keep) if options.keep else NoBook())
+
+
+def lines(options, program):
+    """The line program itself, in place of this process."""
+    program.prepare()
+    sys.stdout.flush()
     try:
-        file = open(options.session, encoding="utf-8", errors="replace")
+        os.execv(RUNNER, [str(RUNNER)])
     except OSError as fault:
-        raise BadFile(options.session, "", f"cannot be read: {fault.strerror}") from fault
-    with file:
-        return books.session(file, options.session, program)
+        raise ProgramFailed(f"{RUNNER} does not start: {fault.strerror}") from fault
+
+
+def new(options, program):
+    outputs.check([], {"OUT.toml": options.out}, options.force)
+    outputs.write(options.out, templates.TEXTS[options.kind])
+    return DONE
 
 
 def rework_jobs(options, program):

@@ -11,7 +11,7 @@ sys.path[:0] = [str(HERE), str(HERE.parent), str(HERE.parents[1])]
 NAMES = (
     "examples", "badfiles", "faultlines", "spellings", "entryfiles", "damaged", "ranges", "reports", "spreads",
     "readback", "outputs", "losses", "worksheets", "workbooks", "halves", "plots", "prints", "reworks", "obstacles",
-    "sessions",
+    "sessions", "keeping", "newfiles",
     "building", "helping", "readme", "sums",
 )  # fmt: skip
 

@@ -23,6 +23,7 @@ SHOWN = {
         "1.0080 0.9867",
         "Meter factor              0.9547",
     ),
+    "flow-computer.toml": ("Runs from a flow computer", "Meter factor              0.9963"),
     "water-draw.toml": ("21,179.67", "21,182.13", "21,182.15", "21,181.32 in³", "2.1832 bbl"),
     "ticket.toml": ("500.00 bbl", "0.9913", "495.65 bbl", "493.17 bbl"),
     "ticket-figure-7.toml": ("0.9898", "52,587.08 bbl", "52,508.20 bbl"),
@@ -67,7 +68,7 @@ RECORD_WORDS = {
 
 
 def accepted(tally):
-    names = {path.name for path in FOLDER.iterdir() if path.is_file()} - {"morning.txt", "README.md"}
+    names = {path.name for path in FOLDER.iterdir() if path.is_file()} - {"morning.txt", "README.md", "flow-computer.csv"}
     tally.same(names, set(SHOWN), "files of examples/")
     for name in sorted(names & set(SHOWN)):
         status, out, err = run(COMMANDS.get(name, "prove"), FOLDER / name)

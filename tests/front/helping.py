@@ -13,6 +13,8 @@ KEYS = {
     "read": {},
     "book": {},
     "rework": {},
+    "new": {},
+    "lines": {},
 }
 WORDS = {
     "prove": (
@@ -23,7 +25,12 @@ WORDS = {
     "ticket": ("--worksheet OUT", "--html OUT", "[ticket]"),
     "live": ("[live]", "nan or inf", "bits"),
     "read": ("RECORD", "--hex BYTES"),
-    "book": ("request SHIPPER NUMBER", "withdraw SHIPPER NUMBER", "take", "empty", "load LAST L0 L1 L2 L3", "quit"),
+    "new": ("KIND", "prove, draw, ticket, live", "OUT.toml", "--force"),
+    "lines": ("docs/LINES.md",),
+    "book": (
+        *("--keep FILE", "request SHIPPER NUMBER", "withdraw SHIPPER NUMBER", "take", "empty"),
+        *("load LAST L0 L1 L2 L3", "quit"),
+    ),
     "rework": ("--csv OUT", "--recursive", "--patience SECONDS", "--force", "Ctrl-C", "130"),
 }
 

@@ -104,8 +104,8 @@ def refused(tally, place):
         tally.same((status, old.exists(), "earlier" in err), (1, False, False), f"{name}: no record there")
 
 
-def small_files():
-    resource.setrlimit(resource.RLIMIT_FSIZE, (1000, 1000))
+def small_files(most=1000):
+    resource.setrlimit(resource.RLIMIT_FSIZE, (most, most))
     signal.signal(signal.SIGXFSZ, signal.SIG_IGN)
 
 
