@@ -2,10 +2,10 @@
 
 from dataclasses import dataclass
 
-from .fields import HOLDS
+from .fields import HOLDS, NUMBER, REQUEST
 from .hints import echo, plain
 from .program import Refused
-from .refusals import Explained
+from .refusals import Detail, Explained
 
 SHIPPERS, PLACES = 4, 16
 STEPS = """\
@@ -105,9 +105,10 @@ def about(number, words, lines):
         case 20:
             return "counts, places or the last served break the book's rules"
         case 21:
-            return f"shipper is {who}, range 0 to 3"
+            return Detail(f"shipper is {who}, range 0 to 3", "shipper", who, 0, SHIPPERS - 1, NUMBER)
         case 22:
-            return f"request number is {which}, range 1 to 4,294,967,295"
+            words = f"request number is {which}, range {REQUEST.range}"
+            return Detail(words, "request", which, REQUEST.low, REQUEST.high, NUMBER)
         case 23:
             return f"request {which} waits in the line of shipper {who}"
         case 24:
@@ -120,38 +121,43 @@ def about(number, words, lines):
 
 
 def do(step, program):
-    """One step: what to print, and whether it was refused."""
+    """One step: what is said of it, and its refusal where it was refused."""
     try:
-        values = program.ask(*step.words)
-        told, refused = step.told.format(*values), False
+        return step.told.format(*program.ask(*step.words)), None
     except Refused as fault:
         number = fault.refusal.number
-        told, refused = Explained(number, 0, (about(number, step.words, lines_of(program)[0]),)).line, True
-    return [told] * bool(told) + shown(*lines_of(program)), refused
+        explained = Explained(number, 0, (about(number, step.words, lines_of(program)[0]),))
+        return explained.line, explained
 
 
-def session(source, program, kept):
-    """The steps of a source; a keyboard is asked again after a line that is no step, any other source ends there."""
+def session(source, program, kept, tell=None):
+    """The steps of a source; a keyboard is asked again after a line that is no step, any other source ends there.
+    `tell` is given what came of each step in place of its page."""
 
     def load(text):
         program.ask(*step_of(text).words)
         return lines_of(program)[0] is not None
 
     kept.begin(load)
-    if source.keyboard:
+    if source.keyboard and not tell:
         print(STEPS)
     any_refused = False
     for place, text in source.steps():
         if text in ("quit", "exit"):
             break
-        if not source.keyboard:
+        if not source.keyboard and not tell:
             print(f"> {echo(text)}")
         try:
-            told, refused = ([STEPS], False) if text == "help" else do(step_of(text), program)
+            words, refusal = (STEPS, None) if text == "help" else do(step_of(text), program)
+            after = shown(*lines_of(program)) if text != "help" else []
         except BadStep as bad:
             if not source.keyboard:
                 raise source.bad({place: bad}) from bad
-            told, refused = [plain(str(bad))], False
-        any_refused = any_refused or refused
-        print("\n".join(told + kept.save(*lines_of(program))), flush=True)
+            words, refusal, after = plain(str(bad)), None, []
+        any_refused = any_refused or bool(refusal)
+        said = kept.save(*lines_of(program))
+        if tell:
+            tell(plain(text), words, refusal, *lines_of(program))
+        else:
+            print("\n".join([words] * bool(words) + after + said), flush=True)
     return 1 if any_refused and not source.keyboard else 0

@@ -4,7 +4,7 @@ import argparse
 import os
 import sys
 
-from . import build, commands, helps, outputs, suffixes, templates, version
+from . import as_json, build, commands, helps, outputs, suffixes, templates, version
 from .badfile import BadFile
 from .hints import echo
 from .outputs import NotWritten
@@ -29,7 +29,9 @@ def parser():
     def command(name, do, summary, about):
         texts = {"help": summary, "description": about, "epilog": helps.STATUS}
         own = listed.add_parser(name, formatter_class=Plain, **texts)
-        own.set_defaults(do=do)
+        own.set_defaults(do=do, command=name, json=False)
+        if name != "lines":
+            own.add_argument("--json", action="store_true", help="JSON in place of the page (docs/JSON.md)")
         return own
 
     prove = command("prove", commands.prove, "a proving job: the report with its meter factor", helps.PROVE)
@@ -67,6 +69,11 @@ def parser():
     seconds = {"type": seconds_of, "metavar": "SECONDS", "default": 30}
     rework.add_argument("--patience", help="how long a file may take before it is skipped (30)", **seconds)
     writes(rework, "--csv", "OUT.csv", "where results go (rework.csv)", "rework.csv")
+    rework.add_argument("--reports", metavar="DIR", help="write the page for print and the plot of each job there")
+
+    verify = command("verify", commands.verify, "whether a page is a job's, and unchanged", helps.VERIFY)
+    verify.add_argument("report", metavar="REPORT", help="a page, plot, worksheet, JSON, record or CSV of results")
+    job_of(verify)
 
     new = command("new", commands.new, "a job file to begin with, that runs as it is", helps.NEW)
     new.add_argument("kind", choices=templates.TEXTS, metavar="KIND", help=", ".join(templates.TEXTS))
@@ -114,6 +121,8 @@ def ready(options):
     outputs.check([options.job] if "job" in options else [], options.places, options.force)
     suffixes.check(options.places)
     options.page = outputs.STANDARD not in options.places.values()
+    if options.json and not options.page:
+        raise BadFile("-", "--json", "standard output has the JSON: expected files for the other outputs")
 
 
 def main(words=None):
@@ -126,10 +135,14 @@ def main(words=None):
         with Program(build.ensure) as program:
             return options.do(options, program)
     except BadFile as told:
+        if options.json:
+            print(as_json.text(as_json.bad(options.command, told)), flush=True)
         print(told, file=sys.stderr)
         return BAD_FILE
     except (ProgramFailed, Refused, build.BuildFailed, NotWritten) as told:
         # A refusal that no command expects is a fault of the front end, no answer to a job.
+        if options.json:
+            print(as_json.text(as_json.failed(options.command, str(told))), flush=True)
         print(told, file=sys.stderr)
         return FAILED
     except BrokenPipeError:

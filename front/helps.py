@@ -114,3 +114,8 @@ is a line, and each meter one at the end. What cannot be read, is a pipe or take
 line; a request number that comes twice is remarked on. Ctrl-C ends after the jobs in hand and the rows
 worked stay; a second Ctrl-C ends at once and writes nothing. Exits 0 when all were accepted, 1 when one was
 refused, 2 when a file was bad or skipped, 3 on an unexpected error, 130 after Ctrl-C."""
+VERIFY = """\
+Says whether a report is of a job: a page as text or for print, a plot, a worksheet or workbook, JSON, a
+report record, or a CSV of rework's. It must carry the job file's SHA-256 (a record has none and is compared),
+and all of it must be what the job comes to when it is worked again; the file's name may have changed. Exits
+0 when it is, 1 when it is of another job or was changed, 2 when it carries no SHA-256."""

@@ -5,7 +5,7 @@ import csv
 import io
 from typing import NamedTuple
 
-from . import version
+from .page import origin
 
 # The label, the unit of one and how it is worked stand before the figures.
 FIRST_COLUMN = 3
@@ -55,7 +55,7 @@ class Sheet:
         # The rows that are headings of parts, and the decimals of those that have any.
         self.headings, self.decimals = set(), {}
         self.title = f"{title}: {job.path}"
-        self.origin = f"SHA-256 of the job file {job.digest}, worked by {version.NAME}"
+        self.origin = origin(job)
         about = "Figures are whole counts of the unit beside them; the last part has them with their points."
         self.rows += [[text(words)] for words in (self.title, self.origin, about)]
 
