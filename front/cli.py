@@ -6,12 +6,20 @@ import sys
 
 from . import as_json, build, commands, helps, outputs, suffixes, templates, version
 from .badfile import BadFile
-from .hints import echo
+from .hints import echo, plain
 from .outputs import NotWritten
 from .program import Program, ProgramFailed, Refused
 from .unexpected import words_of
 
 BAD_FILE, FAILED, STOPPED = 2, 3, 130
+LONGEST_ERROR = 400
+
+
+class Parser(argparse.ArgumentParser):
+    """A word of a command line may hold anything, as a file's text may."""
+
+    def error(self, message):
+        super().error(plain(message[:LONGEST_ERROR]))
 
 
 class Plain(argparse.RawDescriptionHelpFormatter):
@@ -22,7 +30,7 @@ class Plain(argparse.RawDescriptionHelpFormatter):
 
 
 def parser():
-    top = argparse.ArgumentParser("endakuro", description=helps.ABOUT, epilog=helps.STATUS, formatter_class=Plain)
+    top = Parser("endakuro", description=helps.ABOUT, epilog=helps.STATUS, formatter_class=Plain)
     top.add_argument("--version", action=Version, help="show the version and the program's checksum")
     listed = top.add_subparsers(title="commands", metavar="COMMAND", required=True)
 
@@ -129,8 +137,8 @@ def main(words=None):
     # A letter that a terminal does not have, or a file does not spell, is no reason to stop.
     for stream in filter(None, (sys.stdin, sys.stdout, sys.stderr)):
         stream.reconfigure(errors="replace")
-    options = parser().parse_args(words)
     try:
+        options = parser().parse_args(words)
         ready(options)
         with Program(build.ensure) as program:
             return options.do(options, program)
@@ -150,7 +158,7 @@ def main(words=None):
         os.dup2(os.open(os.devnull, os.O_WRONLY), sys.stdout.fileno())
         return FAILED
     except OSError as fault:
-        print(f"{fault.filename or 'output'}: cannot be written: {fault.strerror}", file=sys.stderr)
+        print(f"{plain(str(fault.filename or 'output'))}: cannot be written: {fault.strerror}", file=sys.stderr)
         return FAILED
     except KeyboardInterrupt:
         return STOPPED

@@ -10,6 +10,7 @@ from . import verify as verifying
 from . import workbook, worksheets
 from . import worked as works
 from .hints import plain
+from .jobfiles import NAMES
 from .kept_book import KeptBook, NoBook
 from .program import RUNNER, ProgramFailed, Refused
 
@@ -78,7 +79,7 @@ prove, draw, ticket, live = (job(kind) for kind in ("prove", "draw", "ticket", "
 def read(options, program):
     given = options.hex is not None
     record = report_record.from_hex(options.hex) if given else report_record.from_file(options.record)
-    name = "--hex" if given else options.record
+    name = "--hex" if given else plain(NAMES.get(options.record, options.record))
     try:
         told = figures.read(record, program)
     except Refused as refused:

@@ -18,6 +18,9 @@ UNIT = re.compile(r"\s*[(\[]([^)\]]*)[)\]]\s*$")
 def tables(top, key, known):
     """A table a line of the file, after the line of headings. [runs] says which file, which of its columns are no part
     of the job, and the headings of those that are not called by their keys."""
+    if isinstance(top.values[f"{key}s"], list):
+        top.bad(f"{key}s", f"expected [[{key}]], one for each {key}, or [{key}s] with the name of a file")
+        return []
     own = top.table(f"{key}s")
     own.only(["file", "ignore", *known])
     if key in top.values:

@@ -14,12 +14,16 @@ NAMES = {"-": "standard input"}
 LAST = sys.maxsize
 
 
+def standard_input():
+    if not sys.stdin:
+        raise BadFile(NAMES["-"], "", "is closed: expected a file there")
+    return sys.stdin.buffer
+
+
 def octets_of(path):
     """The file as it stands, read once; `-` is standard input."""
     if path == "-":
-        if not sys.stdin:
-            raise BadFile(NAMES[path], "", "is closed: expected a job file")
-        return sys.stdin.buffer.read()
+        return standard_input().read()
     try:
         with open(path, "rb") as file:
             return file.read()

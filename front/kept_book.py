@@ -5,6 +5,7 @@ import os
 from . import outputs
 from .badfile import BadFile
 from .book import BadStep
+from .hints import plain
 from .jobfiles import File, octets_of
 
 HEAD = "# The book of waiting requests; ./endakuro book --keep goes on from it.\n"
@@ -49,7 +50,7 @@ class KeptBook:
     def save(self, lines, last):
         """The book as it stands, if it changed; what is to be said of it."""
         if lines is None:
-            return [f"  the book is not sound: {self.path} keeps the last one that was"]
+            return [f"  the book is not sound: {plain(self.path)} keeps the last one that was"]
         waiting = " ".join(",".join(map(str, line)) or "-" for line in lines)
         content = f"{HEAD}load {last} {waiting}\n".encode()
         if content == self.content:

@@ -1,10 +1,10 @@
 """A report record as bytes: from a file or hex digits, and what is wrong with one that is no report."""
 
 import struct
-import sys
 
 from .fields import NUMBER, REQUEST, RUN_FACTOR, RUNS
 from .badfile import BadFile
+from .jobfiles import standard_input
 from .records import LENGTH
 from .refusals import Detail, Explained
 
@@ -15,8 +15,8 @@ LAYOUT = struct.Struct("<IHBB5H14s")
 def from_file(path):
     """A report has 32 bytes: one more tells that a file has too many."""
     try:
-        if path == "-" and sys.stdin:
-            return sys.stdin.buffer.read(LENGTH + 1)
+        if path == "-":
+            return standard_input().read(LENGTH + 1)
         with open(path, "rb") as file:
             return file.read(LENGTH + 1)
     except OSError as fault:

@@ -9,6 +9,8 @@ from pathlib import Path
 
 from harness import LAUNCHER, ROOT, Tally, run
 
+from front import outputs
+
 EXAMPLES = ROOT / "examples"
 JOB = (EXAMPLES / "second-five.toml").read_bytes()
 RECORD = (EXAMPLES / "report-7.record").read_bytes()
@@ -147,9 +149,40 @@ def standard(tally, place):
     tally.check(done.returncode == 0 and b"1.0002" in done.stdout, f"a record from standard input: {done.stderr!r}")
 
 
+def streams(tally, place):
+    """Standard streams that are full or closed, and a command line that would speak to the terminal."""
+    job = f"{LAUNCHER} prove {place.job}"
+    for command, expected, words in (
+        (f"{job} > /dev/full", 3, "output: cannot be written: No space left on device\n"),
+        (f"{job} --record - > /dev/full", 3, "standard output: cannot be written: No space left on device\n"),
+        (f"{LAUNCHER} --version > /dev/full", 3, "output: cannot be written: No space left on device\n"),
+        (f"{job} --record - >&-", 3, "standard output: cannot be written: it is closed\n"),
+        (f"{LAUNCHER} prove - <&-", 2, "standard input: is closed: expected a file there\n"),
+        (f"{LAUNCHER} read - <&-", 2, "standard input: is closed: expected a file there\n"),
+    ):
+        done = subprocess.run(command, shell=True, capture_output=True, text=True)
+        tally.same((done.returncode, done.stderr), (expected, words), command)
+    status, _, err = run("prove", place.job, "b\x1b[2J" + "b" * 5000)
+    tally.check(status == 2 and "\x1b" not in err and len(err) < 2000, f"a wild command line: {err[-200:]!r}")
+
+
+def meanwhile(tally, place):
+    """A file that comes into being while an output is written is left as it is."""
+    path = place.folder / "out"
+    try:
+        with outputs.opened(str(path)) as file:
+            file.write(b"mine")
+            path.write_text(OLD)
+        tally.check(False, "a file that came meanwhile was written over")
+    except outputs.NotWritten as told:
+        tally.same(str(told), f"{path}: cannot be written: a file has come there meanwhile", "words")
+    tally.same((path.read_text(), place.parts), (OLD, []), "a file that came meanwhile")
+
+
 def test():
     tally = Tally("nothing lost")
-    for part in (onto_inputs, onto_each_other, onto_old, refused, cut_short, without_kit, standard):
+    parts = (onto_inputs, onto_each_other, onto_old, refused, cut_short, without_kit, standard, streams, meanwhile)
+    for part in parts:
         with tempfile.TemporaryDirectory() as folder:
             part(tally, Place(folder))
     return tally

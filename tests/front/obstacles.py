@@ -15,13 +15,15 @@ from pathlib import Path
 from harness import LAUNCHER, ROOT, Tally, called
 from reworks import rows_of
 
-from front import crew, figures, results
+from front import crew, figures, finding, results
+from front.program import Program
 
 EXAMPLES = ROOT / "examples"
 GOOD = (EXAMPLES / "figure-5.toml").read_text()
 WILD = "a\x1b[2J\udcff\n.toml"
 HANGS = GOOD[: GOOD.index("[[run]]")] + '[runs]\nfile = "pipe"\n'
 OLD = "of an earlier day"
+NOBODY = 65534
 
 
 def rework(folder, *words):
@@ -69,20 +71,56 @@ def obstacles(tally, folder):
 def second_stop(tally, folder):
     """Ctrl-C while a file hangs: the first waits for it, the second ends at once, and the old results are there."""
     os.mkfifo(folder / "pipe")
+    for end in (signal.SIGINT, signal.SIGTERM):
+        stopped_by(tally, folder, end)
+
+
+def stopped_by(tally, folder, end):
     (folder / "hangs.toml").write_text(HANGS)
     (folder / "out.csv").write_text(OLD)
     command = [str(LAUNCHER), "rework", str(folder), "--csv", str(folder / "out.csv"), "--force", "--patience", "300"]
     process = subprocess.Popen(command, stdout=subprocess.PIPE, stderr=subprocess.PIPE, text=True)
     # The pipe is opened for reading once the file is in hand.
     pipe = os.open(folder / "pipe", os.O_WRONLY)
-    process.send_signal(signal.SIGINT)
+    process.send_signal(end)
     time.sleep(0.5)
-    tally.same(process.poll(), None, "after one Ctrl-C the job in hand is waited for")
-    process.send_signal(signal.SIGINT)
+    tally.same(process.poll(), None, f"after one {end.name} the job in hand is waited for")
+    process.send_signal(end)
     _, err = process.communicate(timeout=20)
     os.close(pipe)
     tally.same((process.returncode, err), (130, ""), "after the second")
     tally.same(((folder / "out.csv").read_text(), list(folder.glob(".*.part"))), (OLD, []), "the old results")
+
+
+def unreadable(tally, folder):
+    """Files and folders of somebody else."""
+    inner, locked = folder / "inner", folder / "locked.toml"
+    inner.mkdir()
+    shutil.copy(EXAMPLES / "ticket.toml", locked)
+    shutil.copy(EXAMPLES / "ticket.toml", folder / "a.toml")
+    folder.chmod(0o755)
+    for place in (inner, locked):
+        place.chmod(0)
+    with Program() as program, as_nobody():
+        found = finding.find([str(folder)], True)
+        row = results.worked(str(locked), program)
+    why = {str(inner): "the folder cannot be read: Permission denied"}
+    names = ["a.toml", "inner", "locked.toml"]
+    tally.same(([Path(path).name for path in found.paths], found.skipped), (names, why), "an unreadable folder")
+    tally.same((row["outcome"], row["words"]), ("bad file", "cannot be read: Permission denied"), "an unreadable file")
+
+
+@contextlib.contextmanager
+def as_nobody():
+    """Root may read everything."""
+    root = os.geteuid() == 0
+    if root:
+        os.seteuid(NOBODY)
+    try:
+        yield
+    finally:
+        if root:
+            os.seteuid(0)
 
 
 def onto_runs(tally, folder):
@@ -145,7 +183,7 @@ def lost_worker(tally, folder):
 
 def test():
     tally = Tally("obstacles")
-    for part in (obstacles, second_stop, onto_runs, unexpected, lost_worker):
+    for part in (obstacles, second_stop, unreadable, onto_runs, unexpected, lost_worker):
         with tempfile.TemporaryDirectory() as folder:
             part(tally, Path(folder))
     return tally
