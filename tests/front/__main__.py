@@ -1,4 +1,4 @@
-"""The tests of the front end, a line each. Run: python3 tests/front [NAME ..]"""
+"""The tests of the front end, a line each. Run: python3 tests/front [NAME .. | PART/PARTS]"""
 
 import importlib
 import sys
@@ -15,11 +15,19 @@ NAMES = (
 )  # fmt: skip
 
 
+def chosen(words):
+    """The tests that are named; 1/2 and 2/2 are all of them in two parts, which may run side by side."""
+    if len(words) == 1 and "/" in words[0]:
+        part, parts = map(int, words[0].split("/"))
+        return NAMES[part - 1 :: parts]
+    return words or NAMES
+
+
 def main():
     # Before any test: what it tells of its progress is no part of a command's output.
     importlib.import_module("front.build").ensure()
     failed = 0
-    for name in sys.argv[1:] or NAMES:
+    for name in chosen(sys.argv[1:]):
         began = time.monotonic()
         try:
             tally = importlib.import_module(name).test()
