@@ -16,6 +16,7 @@ from harness import LAUNCHER, ROOT, Tally, called
 from reworks import rows_of
 
 from front import crew, figures, finding, results
+from front.extras import Extras
 from front.program import Program
 
 EXAMPLES = ROOT / "examples"
@@ -103,7 +104,7 @@ def unreadable(tally, folder):
         place.chmod(0)
     with Program() as program, as_nobody():
         found = finding.find([str(folder)], True)
-        row = results.worked(str(locked), program)
+        row = results.worked(str(locked), program, Extras())
     why = {str(inner): "the folder cannot be read: Permission denied"}
     names = ["a.toml", "inner", "locked.toml"]
     tally.same(([Path(path).name for path in found.paths], found.skipped), (names, why), "an unreadable folder")
