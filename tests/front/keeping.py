@@ -48,7 +48,8 @@ def left_alone(tally, folder):
     steps.write_text("request 0 1\n")
     status, _, err = run("book", steps, "--keep", steps)
     tally.same((status, steps.read_text()), (2, "request 0 1\n"), "the session's own file")
-    for place in (folder, "-", "/dev/null"):
+    os.mkfifo(folder / "pipe")
+    for place in (folder, "-", folder / "pipe"):
         tally.same(run("book", "--keep", place, given="request 0 1\n")[0], 2, f"--keep {place}")
     kept = folder / "kept.txt"
     run("book", "--keep", kept, given="request 0 1\n")
