@@ -1,7 +1,6 @@
 """The command line: ./endakuro COMMAND ..."""
 
 import argparse
-import os
 import sys
 
 from . import as_json, build, commands, helps, outputs, suffixes, templates, version
@@ -9,6 +8,7 @@ from .badfile import BadFile
 from .hints import echo, plain
 from .outputs import NotWritten
 from .program import Program, ProgramFailed, Refused
+from .ticker import silence
 from .unexpected import words_of
 
 BAD_FILE, FAILED, STOPPED = 2, 3, 130
@@ -154,8 +154,8 @@ def main(words=None):
         print(told, file=sys.stderr)
         return FAILED
     except BrokenPipeError:
-        # The reader has gone, as head does: nothing is left to say, at exit neither.
-        os.dup2(os.open(os.devnull, os.O_WRONLY), sys.stdout.fileno())
+        # The reader has gone, as head does: nothing is left to say.
+        silence(sys.stdout)
         return FAILED
     except OSError as fault:
         print(f"{plain(str(fault.filename or 'output'))}: cannot be written: {fault.strerror}", file=sys.stderr)

@@ -13,7 +13,7 @@ from .hints import plain
 from .meters import Meters
 from .program import ProgramFailed
 from .results import ACCEPTED, BAD, COLUMNS, REFUSED, SKIPPED, cells
-from .ticker import Ticker
+from .ticker import Ticker, say
 
 FAILED, STOPPED = 3, 130
 
@@ -58,9 +58,9 @@ def rework(options, program):
         # Only now is it known which other files the jobs name.
         outputs.check(book.files, options.places, True)
         file.detach()
-    print("\n".join(book.summary(found, stop.asked, options.csv)), file=out)
+    say("\n".join(book.summary(found, stop.asked, options.csv)), out)
     if options.json:
-        print(as_json.text(as_json.summary(book.counts, stop.asked, options.csv, options.reports)), flush=True)
+        say(as_json.text(as_json.summary(book.counts, stop.asked, options.csv, options.reports)), sys.stdout)
     return STOPPED if stop.asked else book.status
 
 
@@ -83,7 +83,6 @@ class Sheet:
             if "failed" in row:
                 raise ProgramFailed(row["failed"])
             known[path] = row
-            self.ticker.done += 1
             while following in known:
                 self.write(following, known.pop(following))
                 following = next(wanted, None)
@@ -99,12 +98,13 @@ class Sheet:
         elif request:
             self.requests[request] = name
         self.rows.writerow(cells(name, row))
+        self.ticker.done += 1
         self.counts[row["outcome"]] += 1
         self.files.update(row.get("files", ()))
         self.unexpected = self.unexpected or "unexpected" in row
         self.meters.add(row)
         if self.tells:
-            print(as_json.text(row.get("json") or as_json.unread(path, row)), flush=True)
+            say(as_json.text(row.get("json") or as_json.unread(path, row)), sys.stdout)
         for words in filter(None, (self.told(row), row.get("remark"))):
             self.ticker.say(plain(f"{path}: {words}"))
 

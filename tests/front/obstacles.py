@@ -166,6 +166,20 @@ def unexpected(tally, folder):
         Path(row["words"].split("more in ")[-1]).unlink()
 
 
+def reader_gone(tally, folder):
+    """Lines that nobody reads any more are no reason to lose the results."""
+    for number in range(60):
+        shutil.copy(EXAMPLES / "refusals" / "ticket-11-readings-exchanged.toml", folder / f"{number}.toml")
+    for more in ((), ("--json",)):
+        command = [str(LAUNCHER), "rework", str(folder), "--csv", str(folder / "out.csv"), "--force", *more]
+        process = subprocess.Popen(command, stdout=subprocess.PIPE, stderr=subprocess.DEVNULL)
+        process.stdout.readline()
+        process.stdout.close()
+        tally.same(process.wait(60), 1, f"rework {more} whose lines nobody reads")
+        tally.same(len(rows_of(folder / "out.csv")), 60, f"rework {more} whose lines nobody reads")
+        (folder / "out.csv").unlink()
+
+
 def lost_worker(tally, folder):
     """A worker that is killed costs one job, and the others go to a new one."""
     for number in range(40):
@@ -184,7 +198,7 @@ def lost_worker(tally, folder):
 
 def test():
     tally = Tally("obstacles")
-    for part in (obstacles, second_stop, unreadable, onto_runs, unexpected, lost_worker):
+    for part in (obstacles, second_stop, unreadable, onto_runs, unexpected, reader_gone, lost_worker):
         with tempfile.TemporaryDirectory() as folder:
             part(tally, Path(folder))
     return tally
