@@ -4,7 +4,7 @@ use mathlib.Core.Bool.{Bool, true, false}
 use mathlib.Core.List.{List}
 use Prim.Native.Nat.{ℕ, zero, suc, _+_, _≤_, _<_}
 use native.Mathlib.Omega.{arith}
-use Rattle.refusals.specs.Told.{Told, Fault, fine, fault, demand, demandAt, orElse, judged}
+use Rattle.refusals.specs.Told.{Told, done, Fault, fine, fault, demand, demandAt, orElse, unless, judged}
 use Rattle.octets.specs.FirstToLast.{firstToLast, scan}
 use Rattle.promises.specs.Ending.{refusalOk, Ends}
 
@@ -37,12 +37,15 @@ module _ {numbers : List ℕ} {first last : ℕ} where
   by-scan f zero i each = record { number = tt }
   by-scan f (suc n) i each = in-order (f i) (scan f n (i + 1)) (each i (omega arith) (omega arith)) (by-scan f n (i + 1) (λ j from below. each j (omega arith) (omega arith)))
 
-  judged-ends : {A : Type 0} (f : Fault) (x : A) → Finds numbers first last f → Ends numbers first last (judged f x)
-  judged-ends fine x ok = record { gives = tt }
-  judged-ends (fault number at) x ok = record { gives = ok .number }
+  unless-ends : {A : Type 0} (f : Fault) (t : Told A) → Finds numbers first last f → Ends numbers first last t → Ends numbers first last (unless f t)
+  unless-ends fine t ok rest = rest
+  unless-ends (fault number at) t ok rest = record { gives = ok .number }
+
+  pub by-unless : {A : Type 0} {f : Fault} {t : Told A} → Finds numbers first last f → Ends numbers first last t → Ends numbers first last (unless f t)
+  by-unless {A} {f} {t} ok rest = unless-ends f t ok rest
 
   pub by-judged : {A : Type 0} {f : Fault} (x : A) → Finds numbers first last f → Ends numbers first last (judged f x)
-  by-judged {A} {f} x ok = judged-ends f x ok
+  by-judged {A} {f} x ok = unless-ends f (done x) ok (record { gives = tt })
 
 -- what is told ends as its meaning does
 pub as-told : {A : Type 0} {numbers : List ℕ} {first last : ℕ} {t m : Told A} → t ≡ m → Ends numbers first last m → Ends numbers first last t

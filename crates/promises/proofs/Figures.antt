@@ -4,7 +4,7 @@ use mathlib.Core.Path.{_≡_, refl}
 use mathlib.Core.Bool.{true, false}
 use mathlib.Core.List.{List, [], _∷_}
 use mathlib.Core.Option.{some}
-use Prim.Native.Nat.{ℕ}
+use Prim.Native.Nat.{ℕ, zero, suc}
 use lib.IntN.{pos, negℤ}
 use lib.Ieee.{binary32, ofBits}
 use lib.ListN.{replicate}
@@ -13,6 +13,7 @@ use Rattle.ranges.specs.Table.{temperatureOk, drawProverOk, drawMeasureOk, pres
 use Rattle.exact.specs.Rounding.{roundedDiv, rounded}
 use Rattle.octets.specs.Octets.{numberAt, byteAt, wordAt, longAt, signedOf, signedAt, isZeroAt, zeroBetween, bytesOf}
 use Rattle.octets.specs.FirstToLast.{firstToLast, placeIf}
+use Rattle.octets.specs.Lists.{isOneOf}
 use Rattle.group.specs.Mean.{sumOf, meanOf}
 use Rattle.group.specs.Repeatability.{smallest, largest, qualifies, groupAt, qualifiesAt, firstGroup}
 use Rattle.factors.specs.Metal.{metalOk}
@@ -35,11 +36,11 @@ use Rattle.ticket.specs.Ranges.{readingOk, meterFactorOk, sedimentOk, suppliedO
 use Rattle.ticket.specs.Formulas.{indicated, cplFrom, factor, gross, net}
 use Rattle.ticket.specs.Answers.{volumes, ticketOf}
 use Rattle.live.specs.Live.{tenthsOf}
-use Rattle.book.specs.Line.{places, waiting, lineOf, isIn, areProper, areZero}
-use Rattle.book.specs.Figures.{shippers, reserve, ceiling, commons, lineAt, waitingOf, has, beyond, commonsUsed, put, emptyBook}
+use Rattle.book.specs.Line.{waiting, lineOf, areProper}
+use Rattle.book.specs.Figures.{shippers, overShippers, places, reserve, ceiling, commons, lineAt, waitingOf, has, beyond, commonsUsed, put, emptyBook}
 use Rattle.book.specs.Sound.{isLineSound, isSoundAt, areLinesSound, isSound}
-use Rattle.book.specs.Calls.{callFault, hasRoom, requestFault, requestOf, afterRequest}
-use Rattle.book.proofs.Figures.{sent}
+use Rattle.book.specs.Calls.{callFault, hasRoom, entryFault, requestFault, requestOf, entered, afterRequest}
+use Rattle.book.specs.declared.Book.{Book}
 
 -- 'base 20.0000, mild, E 30,000,000, the same pipe'
 unfoldable pub prover : Prover
@@ -60,6 +61,11 @@ fill = fillBytes 1155000 0 700 705 265 1000060 1 0
 -- '10010, 10000, 10001, 10002, 10003, 10005'
 unfoldable pub six : List ℕ
 six = 10010 ∷ 10000 ∷ 10001 ∷ 10002 ∷ 10003 ∷ 10005 ∷ []
+
+-- the book after a shipper has sent the numbers 1, 2, .. up to n
+unfoldable pub sent : ℕ → ℕ → Book → Book
+sent shipper zero book = book
+sent shipper (suc n) book = afterRequest (sent shipper n book) shipper (suc n)
 
 pub record Figures : Type 0 where
   -- 1. 'T 70.0, Gc 250, 4 places: CTS 1.0003 (half-to-even gives 1.0002).'
@@ -104,13 +110,12 @@ pub record Figures : Type 0 where
   pub reading-73 : tenthsOf (ofBits binary32 0x4292_8000) ≡ pos 733
   pub reading-below-0 : tenthsOf (ofBits binary32 0xbe80_0000) ≡ negℤ (pos 3)
   -- 15. 'shipper 0 sends nine: the ninth is 24. Shipper 1 sends five: the fifth is 25. Shipper 2's first goes in.'
-  -- (`sent s n book` is the book after shipper s sent the numbers 1 to n.)
   pub ninth : requestOf (sent 0 8 emptyBook) 0 9 ≡ refused 24 0
   pub fifth : requestOf (sent 1 4 (sent 0 9 emptyBook)) 1 5 ≡ refused 25 0
   pub first : requestOf (sent 1 5 (sent 0 9 emptyBook)) 2 1 ≡ done tt
 
 pub figures : Figures
-unfolding prover run fill six temperatureOk drawProverOk drawMeasureOk pressureOk coefficientOk modulusOk diameterOk wallOk compressibilityOk ctlOk ctdwOk runFactorOk volumeOk pulsesOk kFactorOk runsOk roundedDiv rounded numberAt byteAt wordAt longAt signedOf signedAt isZeroAt zeroBetween bytesOf firstToLast placeIf sumOf meanOf smallest largest qualifies groupAt qualifiesAt firstGroup metalOk cts cps cpl combined pipeOk ctsOf cpsOf cplOf sideOk runFieldsOk indicatedBy steelCts steelCps liquidCpl correctedBy atProver atMeter figuresFrom runFigures proverOk figuresFault workedOf listOf bytesOfReport factorsOk firstOk jobOk reportOf writeOf leftBy fillFrom fillAt certifiedOk scaleOk fillFieldsOk unnamedOk adjusted measureCts proverCts ccts drawn fillFigures barrelsOf recordFault fillOf fillBytes readingOk meterFactorOk sedimentOk suppliedOk liquidOk ticketFieldsOk indicated cplFrom factor gross net volumes ticketOf tenthsOf ofBits places waiting lineOf isIn areProper areZero shippers reserve ceiling commons lineAt waitingOf has beyond commonsUsed put emptyBook isLineSound isSoundAt areLinesSound isSound hasRoom callFault requestFault requestOf afterRequest sent
+unfolding prover run fill six temperatureOk drawProverOk drawMeasureOk pressureOk coefficientOk modulusOk diameterOk wallOk compressibilityOk ctlOk ctdwOk runFactorOk volumeOk pulsesOk kFactorOk runsOk roundedDiv rounded numberAt byteAt wordAt longAt signedOf signedAt isZeroAt zeroBetween bytesOf firstToLast placeIf sumOf meanOf smallest largest qualifies groupAt qualifiesAt firstGroup metalOk cts cps cpl combined pipeOk ctsOf cpsOf cplOf sideOk runFieldsOk indicatedBy steelCts steelCps liquidCpl correctedBy atProver atMeter figuresFrom runFigures proverOk figuresFault workedOf listOf bytesOfReport factorsOk firstOk jobOk reportOf writeOf leftBy fillFrom fillAt certifiedOk scaleOk fillFieldsOk unnamedOk adjusted measureCts proverCts ccts drawn fillFigures barrelsOf recordFault fillOf fillBytes readingOk meterFactorOk sedimentOk suppliedOk liquidOk ticketFieldsOk indicated cplFrom factor gross net volumes ticketOf tenthsOf ofBits waiting lineOf isOneOf areProper shippers overShippers places reserve ceiling commons lineAt waitingOf has beyond commonsUsed put emptyBook isLineSound isSoundAt areLinesSound isSound hasRoom callFault entryFault requestFault requestOf entered afterRequest sent
 figures = record {
   cts-at-70 = refl;
   cts-at-50 = refl;
