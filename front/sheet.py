@@ -94,6 +94,10 @@ class Sheet:
         self.row("smallest", "Smallest", unit, "of the group", [f"=MIN({span})" for span in spans])
         test = (
             Step("spread", "Spread", "", "(largest - smallest) x 10,000", "({largest}-{smallest})*10000"),
+            Step(
+                "percent", "Spread of the smallest", "0.001 %", "(largest - smallest) / smallest, rounded",
+                "ROUND(({largest}-{smallest})*100000/{smallest},0)",
+            ),
             Step("allowed", "Allowed", "", "limit x smallest", limit + "*{smallest}"),
             Step("meets", "Meets the limit", "", "1 where spread <= allowed", "IF({spread}<={allowed},1,0)"),
         )
