@@ -42,7 +42,8 @@ class File:
             # Some editors put a byte order mark before a text.
             self.text = octets.decode("utf-8-sig").replace("\r\n", "\n")
         except UnicodeDecodeError as fault:
-            raise BadFile(self.path, "", f"is not text in UTF-8: expected {expected}") from fault
+            line = octets[: fault.start].count(b"\n") + 1
+            raise BadFile(self.path, "", f"is not text in UTF-8 at line {line}: expected {expected}") from fault
 
     @cached_property
     def places(self):

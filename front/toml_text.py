@@ -78,6 +78,8 @@ def said(line, words):
         return f"{echo(value)} {TOO_LONG}"
     if COMMAS.fullmatch(value):
         return f"{echo(value)} has a comma: {echo(without_commas(value))}"
+    if value[0] in "\"'" and value.count(value[0]) == 1:
+        return f"{echo(value)} has no closing quote"
     if HALF.fullmatch(value):
         return f"{echo(value)} is no number of TOML: expected digits on both sides of the point"
     if ZEROS.fullmatch(value):
