@@ -1,6 +1,7 @@
 """Reading a job file: TOML, exact numbers, and words that help where it is wrong. All faults of a file are told at
 once, first to last, each with its line and the text there."""
 
+import contextlib
 import sys
 from functools import cached_property
 from pathlib import Path
@@ -12,6 +13,8 @@ from .hints import plain
 # How a file is called in words where its name is a sign.
 NAMES = {"-": "standard input"}
 LAST = sys.maxsize
+# Some ten times what the most runs take that a line of the program holds.
+MOST_OCTETS = 16_000_000
 
 
 def standard_input():
@@ -22,13 +25,14 @@ def standard_input():
 
 def octets_of(path):
     """The file as it stands, read once; `-` is standard input."""
-    if path == "-":
-        return standard_input().read()
     try:
-        with open(path, "rb") as file:
-            return file.read()
+        with contextlib.nullcontext(standard_input()) if path == "-" else open(path, "rb") as file:
+            octets = file.read(MOST_OCTETS + 1)
     except (OSError, ValueError) as fault:
         raise BadFile(path, "", f"cannot be read: {getattr(fault, 'strerror', None) or fault}") from fault
+    if len(octets) > MOST_OCTETS:
+        raise BadFile(NAMES.get(path, path), "", f"is larger than any job: expected at most {MOST_OCTETS:,} bytes")
+    return octets
 
 
 class File:

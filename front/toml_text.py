@@ -7,7 +7,7 @@ from .hints import echo, without_commas
 
 # Stands in a place whose line has been told already; no text that people write has this sign.
 TOLD = "\ufdd0"
-MOST_LINES = 100
+MOST_LINES = 40
 AT = re.compile(r" \(at (?:line (\d+), column \d+|end of document)\)$")
 ASSIGNED = re.compile(r"""\s*([A-Za-z0-9_-]+)\s*=\s*([^#]*?)\s*(?:\#.*)?""")
 COMMAS = re.compile(r"[+-]?\d[\d.]*(?:,\d+)+(?:\.\d+)?")

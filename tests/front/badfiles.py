@@ -29,6 +29,8 @@ CASES = (
     ("no closing quote", "prove", changed('"mild carbon"', '"mild carbon'),
      '[prover], metal: "mild carbon has no closing quote'),
     ("deep", "prove", "a = " + "[" * 5000, "is not TOML: "),
+    ("a key of many parts", "prove", ".".join("a" * 900) + " = 1\n" + GOOD, "a: unknown key: "),
+    ("immense", "prove", b"#" * 16_000_001, "is larger than any job: expected at most 16,000,000 bytes"),
     ("empty", "prove", "", "the table [meter] is missing", 4),
     ("another kind", "draw", GOOD, "is a job of the kind prove: try ./endakuro prove"),
     ("no request", "prove", changed("request = 5\n", ""),
