@@ -1,6 +1,7 @@
 """The command line: ./endakuro COMMAND ..."""
 
 import argparse
+import contextlib
 import sys
 
 from . import as_json, build, commands, helps, outputs, suffixes, templates, version
@@ -133,6 +134,13 @@ def ready(options):
         raise BadFile("-", "--json", "standard output has the JSON: expected files for the other outputs")
 
 
+def tell(options, told):
+    """What went wrong, for machines; where standard output is full or closed, the status alone tells it."""
+    if options.json:
+        with contextlib.suppress(OSError, ValueError):
+            print(as_json.text(told), flush=True)
+
+
 def main(words=None):
     # A letter that a terminal does not have, or a file does not spell, is no reason to stop.
     for stream in filter(None, (sys.stdin, sys.stdout, sys.stderr)):
@@ -143,14 +151,12 @@ def main(words=None):
         with Program(build.ensure) as program:
             return options.do(options, program)
     except BadFile as told:
-        if options.json:
-            print(as_json.text(as_json.bad(options.command, told)), flush=True)
+        tell(options, as_json.bad(options.command, told))
         print(told, file=sys.stderr)
         return BAD_FILE
     except (ProgramFailed, Refused, build.BuildFailed, NotWritten) as told:
         # A refusal that no command expects is a fault of the front end, no answer to a job.
-        if options.json:
-            print(as_json.text(as_json.failed(options.command, str(told))), flush=True)
+        tell(options, as_json.failed(options.command, str(told)))
         print(told, file=sys.stderr)
         return FAILED
     except BrokenPipeError:

@@ -2,10 +2,13 @@
 SHA-256, and all of it is what the job comes to when it is worked again. Only the file's name may have changed."""
 
 import csv
+import html
 import io
 import json
 import re
 import zipfile
+import zlib
+from dataclasses import replace
 
 from . import as_json, page, pages, plot, results, version, workbook, worksheets
 from . import worked as works
@@ -17,9 +20,14 @@ from .records import LENGTH
 
 SAME, OTHER, CHANGED = "same", "other job", "changed"
 DIGEST = re.compile(r"\b[0-9a-f]{64}\b")
-# What may differ: the file's name, and the size of letters that depends on its length.
-JOB_FILE = re.compile(r"<div[^>]*><dt>Job file</dt>.*?</div>|<style>.*?</style>", re.DOTALL)
-SHEETS = ("xl/worksheets/sheet1.xml", "xl/worksheets/sheet2.xml")
+# The file's name as a page for print and a workbook have it: both are made again under that name.
+NAMED = re.compile(r"<dt>Job file</dt><dd>(.*?)</dd>|<t[^>]*>[A-Z][a-z ]* worksheet: (.*?)</t>")
+STRINGS, PROPERTIES = "xl/sharedStrings.xml", "docProps/core.xml"
+WHEN = re.compile(r"<dcterms:.*?</dcterms:\w+>")
+LARGEST_PART = 1 << 26
+BROKEN = (
+    KeyError, TypeError, ValueError, AttributeError, RuntimeError, EOFError, OSError, zipfile.BadZipFile, zlib.error,
+)  # fmt: skip
 
 
 def text_parts(octets):
@@ -30,8 +38,8 @@ def text_parts(octets):
     return lines[:start] + lines[end:]
 
 
-def html_parts(octets):
-    return JOB_FILE.sub("", octets.decode("utf-8", "replace")).splitlines()
+def lines_parts(octets):
+    return octets.decode("utf-8", "replace").splitlines()
 
 
 def csv_parts(octets):
@@ -44,13 +52,24 @@ def json_parts(octets):
     return [f"{key}: {json.dumps(value, ensure_ascii=False)}" for key, value in told.items()]
 
 
-def workbook_parts(octets):
+def unpacked(octets):
+    """The files of a workbook."""
     with zipfile.ZipFile(io.BytesIO(octets)) as parts:
-        return [cell for name in SHEETS for cell in parts.read(name).decode().split("<c ")]
+        if any(part.file_size > LARGEST_PART for part in parts.infolist()):
+            raise ValueError("larger than any workbook of ours")
+        return {part.filename: parts.read(part).decode("utf-8", "replace") for part in parts.infolist()}
 
 
-def svg_parts(octets):
-    return octets.decode("utf-8", "replace").splitlines()
+def workbook_parts(octets):
+    """All of it but when it was made."""
+    return [f"{name} {cell}" for name, text in unpacked(octets).items() for cell in WHEN.sub("", text).split("<c ")]
+
+
+def named(octets):
+    """The name of the job file as a page for print or a workbook has it."""
+    text = unpacked(octets)[STRINGS] if octets.startswith(b"PK") else octets.decode("utf-8", "replace")
+    found = NAMED.search(text)
+    return html.unescape(found[1] or found[2]) if found else ""
 
 
 def workbook_again(worked):
@@ -61,13 +80,13 @@ def worksheet_again(worked):
     return worksheets.build(worked).octets
 
 
-# What only a job with figures has.
-OF_FIGURES = (workbook_again, worksheet_again)
+# What only a job with figures has, and what is made again under the name that it has.
+OF_FIGURES, UNDER_NAME = (workbook_again, worksheet_again), (workbook_again, pages.printed)
 # By what a file begins with: its parts, and how it is made again.
 KINDS = (
     (b"PK", workbook_parts, workbook_again),
-    (b"<!DOCTYPE html>", html_parts, pages.printed),
-    (b"<svg", svg_parts, plot.draw),
+    (b"<!DOCTYPE html>", lines_parts, pages.printed),
+    (b"<svg", lines_parts, plot.draw),
     (b"{", json_parts, lambda worked: as_json.text(as_json.job(worked))),
     (b"\xef\xbb\xbf", csv_parts, worksheet_again),
     (b"", text_parts, lambda worked: "\n".join(page.text(pages.build(worked)))),
@@ -78,9 +97,8 @@ def digests(octets):
     """The digests that a file carries."""
     if octets.startswith(b"PK"):
         try:
-            with zipfile.ZipFile(io.BytesIO(octets)) as parts:
-                octets = parts.read("docProps/core.xml")
-        except (KeyError, zipfile.BadZipFile):
+            return DIGEST.findall(unpacked(octets)[PROPERTIES])
+        except BROKEN:
             return []
     return DIGEST.findall(octets.decode("utf-8", "replace"))
 
@@ -112,11 +130,11 @@ def compared(octets, worked, program):
     parts, make = next((parts, make) for start, parts, make in KINDS if octets.startswith(start))
     if make in OF_FIGURES and not worked.has_figures or make is plot.draw and not worked.runs:
         return "there is none of that kind"
-    made = make(worked)
     try:
-        found = parts(octets)
-    except (KeyError, TypeError, ValueError, AttributeError, zipfile.BadZipFile):
+        found, name = parts(octets), named(octets) if make in UNDER_NAME else ""
+    except BROKEN:
         return "it cannot be read"
+    made = make(replace(worked, job=replace(worked.job, path=name or worked.job.path)))
     expected = parts(made.encode() if isinstance(made, str) else made)
     for number, (own, other) in enumerate(zip(found, expected), 1):
         if own != other:

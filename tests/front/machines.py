@@ -4,11 +4,12 @@ record, field, value and range; and docs/JSON.md names every key."""
 import json
 import re
 import shutil
+import subprocess
 import tempfile
 from pathlib import Path
 
 from examples import COMMANDS, WORDS
-from harness import ROOT, Tally, called, run
+from harness import LAUNCHER, ROOT, Tally, called, run
 
 from front.units import shown
 
@@ -125,6 +126,14 @@ def bad(tally, folder):
     for fault in told["faults"]:
         tally.holds(err, fault["words"], "a bad file")
     documented(tally, told, "a bad file")
+    missing = folder / "none" / "plot.svg"
+    status, line, err = called("prove", EXAMPLES / "figure-5.toml", "--json", "--plot", missing)
+    told = parsed(line)
+    tally.same((status, told["outcome"], f"{told['words']}\n"), (3, "failed", err), "an output that cannot be written")
+    done = subprocess.run(
+        [LAUNCHER, "prove", path, "--json"], stdout=open("/dev/full", "w"), stderr=subprocess.PIPE, text=True, cwd="/"
+    )
+    tally.check(done.returncode in (2, 3) and "Traceback" not in done.stderr, f"a full output: {done.stderr}")
     status, line, _ = called("prove", EXAMPLES / "figure-5.toml", "--json", "--plot", "-")
     tally.same((status, parsed(line)["outcome"]), (2, "bad file"), "two outputs on standard output")
 

@@ -2,6 +2,8 @@
 
 import csv
 import json
+import random
+import re
 import shutil
 import tempfile
 from pathlib import Path
@@ -15,6 +17,7 @@ JOBS = {
     "ticket": ("ticket.toml",),
 }
 OTHER = EXAMPLES / "figure-5.toml"
+DAMAGED = 12
 SAME = "is that job's, and all of it is what Endakuro 1.0 makes of it"
 # A digit of each file that is changed: what stands there, and what instead.
 CHANGES = {
@@ -57,6 +60,22 @@ def one(tally, kind, example):
                 tally.check(status == 1 and told in out, f"{example}: {name} changed: {status} {out}")
 
 
+def damaged(tally, folder):
+    """Reports cut off or with a byte changed behind the SHA-256: never the job's, and never an unexpected error."""
+    rng, job = random.Random(41), EXAMPLES / "second-five.toml"
+    for name in made("prove", job, folder):
+        report, whole = folder / name, (folder / name).read_bytes()
+        first = max((found.end() for found in re.finditer(rb"[0-9a-f]{64}", whole)), default=0)
+        for number in range(DAMAGED):
+            at = rng.randrange(first, len(whole) - 1)
+            other = bytes([(whole[at] + rng.randrange(1, 256)) % 256])
+            report.write_bytes(whole[:at] if number % 3 == 0 else whole[:at] + other + whole[at + 1 :])
+            status, out, err = called("verify", report, job)
+            # A workbook also has bytes that say nothing, as the hour at which it was packed.
+            wanted = (0, 1, 2) if name == "page.xlsx" else (1,)
+            tally.check(status in wanted, f"{name} damaged at {at}: {status} {out} {err}")
+
+
 def rows(tally, folder):
     """A row of rework's results, and a record."""
     job = folder / "job.toml"
@@ -96,7 +115,7 @@ def test():
     for kind, examples in JOBS.items():
         for example in examples:
             one(tally, kind, example)
-    for part in (rows, refused):
+    for part in (damaged, rows, refused):
         with tempfile.TemporaryDirectory() as folder:
             part(tally, Path(folder))
     return tally
