@@ -3,6 +3,7 @@
 import json
 import os
 import selectors
+import signal
 import subprocess
 import sys
 import time
@@ -20,11 +21,14 @@ START = "import sys; sys.path.insert(0, sys.argv[1]); from front.crew import wor
 IN_HAND = 16
 # What a worker may take to start on a busy machine, in seconds; no file is to blame for that.
 STARTING = 60
+TIDYING = 0.5
 
 
 def work(wanted="{}"):
     """A worker: a line when it is up, then a path a line in, its row a line out."""
     answers, sys.stdout = sys.stdout, sys.stderr
+    # What is half written goes with it.
+    signal.signal(signal.SIGTERM, lambda *_: sys.exit(1))
     extras = Extras(**json.loads(wanted))
     print("{}", file=answers, flush=True)
     with Program() as program:
@@ -71,8 +75,12 @@ class Worker:
         return self.since + patience + (0 if self.is_up else STARTING) - time.monotonic()
 
     def end(self):
-        """At once; one that does not even die is not waited for."""
-        self.process.kill()
+        """It may tidy up first; one that does not even die is not waited for."""
+        self.process.terminate()
+        try:
+            self.process.wait(TIDYING)
+        except subprocess.TimeoutExpired:
+            self.process.kill()
         for pipe in (self.process.stdin, self.process.stdout):
             try:
                 pipe.close()

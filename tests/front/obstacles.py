@@ -152,13 +152,14 @@ def unexpected(tally, folder):
     tally.holds(Path(err.split("more in ")[-1].strip()).read_text(), "in broken", "its trace")
     Path(err.split("more in ")[-1].strip()).unlink()
     kept, results.worked = results.worked, broken
-    streams, out = (sys.stdin, sys.stdout), io.StringIO()
+    streams, out, before = (sys.stdin, sys.stdout), io.StringIO(), signal.getsignal(signal.SIGTERM)
     try:
         sys.stdin, sys.stdout = io.StringIO('"a.toml"\n"b.toml"\n'), out
         with contextlib.redirect_stderr(io.StringIO()):
             crew.work()
     finally:
         (sys.stdin, sys.stdout), results.worked = streams, kept
+        signal.signal(signal.SIGTERM, before)
     _, *rows = [json.loads(line) for line in out.getvalue().splitlines()]
     tally.same([(row["outcome"], row["unexpected"]) for row in rows], [("skipped", True)] * 2, "in a worker")
     for row in rows:
@@ -180,6 +181,18 @@ def reader_gone(tally, folder):
         (folder / "out.csv").unlink()
 
 
+def tidied(tally, folder):
+    """A worker that is ended comes to its own end, by which what it has half written is gone."""
+    os.mkfifo(folder / "pipe")
+    (folder / "hangs.toml").write_text(HANGS)
+    worker = crew.Worker(Extras())
+    worker.give(str(folder / "hangs.toml"))
+    pipe = os.open(folder / "pipe", os.O_WRONLY)
+    worker.end()
+    os.close(pipe)
+    tally.same(worker.process.poll(), 1, "a worker that is ended")
+
+
 def lost_worker(tally, folder):
     """A worker that is killed costs one job, and the others go to a new one."""
     for number in range(40):
@@ -198,7 +211,7 @@ def lost_worker(tally, folder):
 
 def test():
     tally = Tally("obstacles")
-    for part in (obstacles, second_stop, unreadable, onto_runs, unexpected, reader_gone, lost_worker):
+    for part in (obstacles, second_stop, unreadable, onto_runs, unexpected, reader_gone, tidied, lost_worker):
         with tempfile.TemporaryDirectory() as folder:
             part(tally, Path(folder))
     return tally
