@@ -21,7 +21,8 @@ START = "import sys; sys.path.insert(0, sys.argv[1]); from front.crew import wor
 IN_HAND = 16
 # What a worker may take to start on a busy machine, in seconds; no file is to blame for that.
 STARTING = 60
-TIDYING = 0.5
+# And to end.
+TIDYING = 3
 
 
 def work(wanted="{}"):
@@ -99,6 +100,8 @@ class Crew:
         return self
 
     def __exit__(self, *_):
+        for worker in self.workers:
+            worker.process.terminate()
         for worker in self.workers:
             worker.end()
 

@@ -190,7 +190,7 @@ def tidied(tally, folder):
     pipe = os.open(folder / "pipe", os.O_WRONLY)
     worker.end()
     os.close(pipe)
-    tally.same(worker.process.poll(), 1, "a worker that is ended")
+    tally.same(worker.process.wait(20), 1, "a worker that is ended")
 
 
 def lost_worker(tally, folder):
