@@ -13,7 +13,7 @@ SHOWN = {
     ),
     "second-five.toml": (
         "2 to 6 of 6",
-        "within 0.05 % of the smallest; limit 0.05 %: met",
+        "of the smallest; limit 0.05 %: met",
         "07 00 00 00 12 27 02 06 10 27 11 27 12 27 13 27 15 27 00",
     ),
     "figure-5.toml": ("0.9984 17.6258 |", "Meter factor              0.9963"),
