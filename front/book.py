@@ -1,12 +1,11 @@
 """A session with the book of waiting requests: a step a line, and the four lines after each."""
 
-import sys
 from dataclasses import dataclass
 
-from .fields import HOLDS
-from .hints import plain
+from .fields import HOLDS, NUMBER, REQUEST
+from .hints import echo, plain
 from .program import Refused
-from .refusals import Explained
+from .refusals import Detail, Explained
 
 SHIPPERS, PLACES = 4, 16
 STEPS = """\
@@ -29,7 +28,7 @@ class BadStep(Exception):
 def number(word, place, what):
     least, most = HOLDS[place]
     if not (word.isascii() and word.isdigit() and len(word) <= 10 and least <= int(word) <= most):
-        raise BadStep(f"{word}: expected {what}")
+        raise BadStep(f"{echo(word)}: expected {what}")
     return int(word)
 
 
@@ -61,7 +60,7 @@ def step_of(text):
     name, *operands = text.split()
     wanted = {"request": 2, "withdraw": 2, "take": 0, "empty": 0, "load": 1 + SHIPPERS, "book": 0}
     if name not in wanted:
-        raise BadStep(f"{name}: expected one of {', '.join(wanted)}, help or quit")
+        raise BadStep(f"{echo(name)}: expected one of {', '.join(wanted)}, help or quit")
     if len(operands) != wanted[name]:
         expected = next(line for line in STEPS.splitlines() if line.startswith(name)).split("  ")[0]
         raise BadStep(f"expected: {expected}")
@@ -106,9 +105,10 @@ def about(number, words, lines):
         case 20:
             return "counts, places or the last served break the book's rules"
         case 21:
-            return f"shipper is {who}, range 0 to 3"
+            return Detail(f"shipper is {who}, range 0 to 3", "shipper", who, 0, SHIPPERS - 1, NUMBER)
         case 22:
-            return f"request number is {which}, range 1 to 4,294,967,295"
+            words = f"request number is {which}, range {REQUEST.range}"
+            return Detail(words, "request", which, REQUEST.low, REQUEST.high, NUMBER)
         case 23:
             return f"request {which} waits in the line of shipper {who}"
         case 24:
@@ -121,47 +121,43 @@ def about(number, words, lines):
 
 
 def do(step, program):
-    """One step: what to print, and whether it was refused."""
+    """One step: what is said of it, and its refusal where it was refused."""
     try:
-        values = program.ask(*step.words)
-        told, refused = step.told.format(*values), False
+        return step.told.format(*program.ask(*step.words)), None
     except Refused as fault:
         number = fault.refusal.number
-        told, refused = Explained(number, 0, (about(number, step.words, lines_of(program)[0]),)).line, True
-    return [told] * bool(told) + shown(*lines_of(program)), refused
+        explained = Explained(number, 0, (about(number, step.words, lines_of(program)[0]),))
+        return explained.line, explained
 
 
-def session(source, name, program):
-    """The steps of a source; a keyboard is asked again after a line that is no step, a file ends there."""
-    keyboard = source.isatty()
-    if keyboard:
+def session(source, program, kept, tell=None):
+    """The steps of a source; a keyboard is asked again after a line that is no step, any other source ends there.
+    `tell` is given what came of each step in place of its page."""
+
+    def load(text):
+        program.ask(*step_of(text).words)
+        return lines_of(program)[0] is not None
+
+    kept.begin(load)
+    if source.keyboard and not tell:
         print(STEPS)
     any_refused = False
-    for place, text in enumerate(prompted(source) if keyboard else source, 1):
-        text = text.strip()
-        if not text or text.startswith("#"):
-            continue
+    for place, text in source.steps():
         if text in ("quit", "exit"):
             break
-        if not keyboard:
-            print(f"> {plain(text)}")
+        if not source.keyboard and not tell:
+            print(f"> {echo(text)}")
         try:
-            told, refused = ([STEPS], False) if text == "help" else do(step_of(text), program)
+            words, refusal = (STEPS, None) if text == "help" else do(step_of(text), program)
+            after = shown(*lines_of(program)) if text != "help" else []
         except BadStep as bad:
-            if not keyboard:
-                print(f"{name}: line {place}: {plain(str(bad))}", file=sys.stderr)
-                return 2
-            told, refused = [plain(str(bad))], False
-        any_refused = any_refused or refused
-        print("\n".join(told), flush=True)
-    return 1 if any_refused and not keyboard else 0
-
-
-def prompted(source):
-    while True:
-        print("book> ", end="", flush=True)
-        text = source.readline()
-        if not text:
-            print()
-            return
-        yield text
+            if not source.keyboard:
+                raise source.bad({place: bad}) from bad
+            words, refusal, after = plain(str(bad)), None, []
+        any_refused = any_refused or bool(refusal)
+        said = kept.save(*lines_of(program))
+        if tell:
+            tell(plain(text), words, refusal, *lines_of(program))
+        else:
+            print("\n".join([words] * bool(words) + after + said), flush=True)
+    return 1 if any_refused and not source.keyboard else 0

@@ -4,21 +4,27 @@ import os
 import sys
 
 from . import book as books
-from . import draw_worksheet, figures, jobs, outputs, page, pages, plot, report_record, rework, short_pages
-from . import ticket_worksheet, worksheet
+from . import as_json, figures, jobs, outputs, page, pages, plot, report_record, rework, short_pages, steps, suffixes
+from . import templates
+from . import verify as verifying
+from . import workbook, worksheets
 from . import worked as works
-from .badfile import BadFile
 from .hints import plain
-from .program import Refused
+from .jobfiles import NAMES
+from .kept_book import KeptBook, NoBook
+from .program import RUNNER, ProgramFailed, Refused
 
 DONE, REFUSED = 0, 1
-WORKSHEETS = {"prove": worksheet.build, "draw": draw_worksheet.build, "ticket": ticket_worksheet.build}
 
 
 def show(options, shown):
     """The page, unless an output takes its place."""
     if options.page:
         print("\n".join(page.text(shown)), flush=True)
+
+
+def tell(told):
+    print(as_json.text(told), flush=True)
 
 
 def refuse(path, told):
@@ -35,7 +41,9 @@ def job(kind):
         outputs.check(own.files, options.places, options.force)
         worked = works.work(own, program)
         write_outputs(options, worked)
-        if worked.has_figures:
+        if options.json:
+            tell(as_json.job(worked))
+        elif worked.has_figures:
             show(options, pages.build(worked))
         return refuse_job(options, worked) if worked.refusal else DONE
 
@@ -47,7 +55,9 @@ def write_outputs(options, worked):
     if getattr(options, "html", None):
         outputs.write(options.html, pages.printed(worked))
     if getattr(options, "worksheet", None) and worked.has_figures:
-        outputs.write(options.worksheet, WORKSHEETS[worked.job.kind](worked).octets)
+        sheet = worksheets.build(worked)
+        is_book = suffixes.of(options.worksheet) == suffixes.WORKBOOK
+        outputs.write(options.worksheet, workbook.octets(sheet) if is_book else sheet.octets)
     if getattr(options, "plot", None) and worked.has_figures:
         outputs.write(options.plot, plot.draw(worked))
     if getattr(options, "record", None) and worked.answer:
@@ -69,27 +79,58 @@ prove, draw, ticket, live = (job(kind) for kind in ("prove", "draw", "ticket", "
 def read(options, program):
     given = options.hex is not None
     record = report_record.from_hex(options.hex) if given else report_record.from_file(options.record)
-    name = "--hex" if given else options.record
+    name = "--hex" if given else plain(NAMES.get(options.record, options.record))
     try:
         told = figures.read(record, program)
     except Refused as refused:
-        return refuse(name, report_record.explain(record, refused.refusal))
-    show(options, short_pages.read(name, record, told))
+        explained = report_record.explain(record, refused.refusal)
+        if options.json:
+            tell(as_json.record(name, record, explained=explained))
+        return refuse(name, explained)
+    if options.json:
+        tell(as_json.record(name, record, told))
+    else:
+        show(options, short_pages.read(name, record, told))
     return DONE
 
 
 def book(options, program):
-    if not options.session:
-        if not sys.stdin:
-            raise BadFile("standard input", "", "is closed: expected steps, or the name of a session file")
-        return books.session(sys.stdin, "standard input", program)
+    named = options.session not in (None, outputs.STANDARD)
+    outputs.check([options.session] if named else [], {"--keep": options.keep}, force=True)
+    source = steps.of_file(options.session) if named else steps.of_standard_input()
+    kept = KeptBook(options.keep) if options.keep else NoBook()
+    return books.session(source, program, kept, (lambda *told: tell(as_json.step(*told))) if options.json else None)
+
+
+def lines(options, program):
+    """The line program itself, in place of this process."""
+    program.prepare()
+    sys.stdout.flush()
     try:
-        file = open(options.session, encoding="utf-8", errors="replace")
+        os.execv(RUNNER, [str(RUNNER)])
     except OSError as fault:
-        raise BadFile(options.session, "", f"cannot be read: {fault.strerror}") from fault
-    with file:
-        return books.session(file, options.session, program)
+        raise ProgramFailed(f"{RUNNER} does not start: {fault.strerror}") from fault
+
+
+def new(options, program):
+    outputs.check([], {"OUT.toml": options.out}, options.force)
+    if not options.json or options.out != outputs.STANDARD:
+        outputs.write(options.out, templates.TEXTS[options.kind])
+    if options.json:
+        tell(as_json.new(options.kind, templates.TEXTS[options.kind]))
+    return DONE
 
 
 def rework_jobs(options, program):
     return rework.rework(options, program)
+
+
+def verify(options, program):
+    """0 the report is the job's, 1 it is not or has been changed."""
+    job = jobs.read(options.job)
+    outcome, words = verifying.verify(options.report, job, program)
+    if options.json:
+        tell(as_json.verified(outcome, words, options.report, job))
+    else:
+        print(verifying.line(options.report, words), flush=True)
+    return DONE if outcome == verifying.SAME else REFUSED

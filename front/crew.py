@@ -3,31 +3,40 @@
 import json
 import os
 import selectors
+import signal
 import subprocess
 import sys
 import time
 from collections import deque
+from dataclasses import asdict
 
 from . import results
+from .extras import Extras
+from .outputs import NotWritten
 from .program import ROOT, Program, ProgramFailed
 from .unexpected import words_of
 
-START = "import sys; sys.path.insert(0, sys.argv[1]); from front.crew import work; work()"
+START = "import sys; sys.path.insert(0, sys.argv[1]); from front.crew import work; work(sys.argv[2])"
 # What a worker has in hand: enough that it does not wait for the next.
 IN_HAND = 16
 # What a worker may take to start on a busy machine, in seconds; no file is to blame for that.
 STARTING = 60
+# And to end.
+TIDYING = 3
 
 
-def work():
+def work(wanted="{}"):
     """A worker: a line when it is up, then a path a line in, its row a line out."""
     answers, sys.stdout = sys.stdout, sys.stderr
+    # What is half written goes with it.
+    signal.signal(signal.SIGTERM, lambda *_: sys.exit(1))
+    extras = Extras(**json.loads(wanted))
     print("{}", file=answers, flush=True)
     with Program() as program:
         for line in sys.stdin:
             try:
-                told = results.worked(json.loads(line), program)
-            except ProgramFailed as failed:
+                told = results.worked(json.loads(line), program, extras)
+            except (ProgramFailed, NotWritten) as failed:
                 told = {"failed": str(failed)}
             except Exception as fault:
                 told = {"outcome": results.SKIPPED, "words": words_of(fault), "unexpected": True}
@@ -35,10 +44,11 @@ def work():
 
 
 class Worker:
-    def __init__(self):
+    def __init__(self, extras):
+        words = [sys.executable, "-c", START, str(ROOT), json.dumps(asdict(extras))]
         pipes = {"stdin": subprocess.PIPE, "stdout": subprocess.PIPE}
         # A session of its own: Ctrl-C is for the front end, which ends its workers when it has tidied up.
-        self.process = subprocess.Popen([sys.executable, "-c", START, str(ROOT)], start_new_session=True, **pipes)
+        self.process = subprocess.Popen(words, start_new_session=True, **pipes)
         self.in_hand, self.rest, self.since, self.is_up = deque(), b"", time.monotonic(), False
 
     def give(self, path):
@@ -66,8 +76,12 @@ class Worker:
         return self.since + patience + (0 if self.is_up else STARTING) - time.monotonic()
 
     def end(self):
-        """At once; one that does not even die is not waited for."""
-        self.process.kill()
+        """It may tidy up first; one that does not even die is not waited for."""
+        self.process.terminate()
+        try:
+            self.process.wait(TIDYING)
+        except subprocess.TimeoutExpired:
+            self.process.kill()
         for pipe in (self.process.stdin, self.process.stdout):
             try:
                 pipe.close()
@@ -78,14 +92,16 @@ class Worker:
 class Crew:
     """Use as a context. `patience` is how many seconds a file may take."""
 
-    def __init__(self, count, patience):
-        self.patience = patience
-        self.workers = [Worker() for _ in range(count)]
+    def __init__(self, count, patience, extras=Extras()):
+        self.patience, self.extras = patience, extras
+        self.workers = [Worker(extras) for _ in range(count)]
 
     def __enter__(self):
         return self
 
     def __exit__(self, *_):
+        for worker in self.workers:
+            worker.process.terminate()
         for worker in self.workers:
             worker.end()
 
@@ -119,6 +135,6 @@ class Crew:
         waiting.extendleft(reversed(others))
         worker.in_hand.clear()
         worker.end()
-        self.workers[self.workers.index(worker)] = Worker()
+        self.workers[self.workers.index(worker)] = Worker(self.extras)
         if first is not None:
             yield first, {"outcome": results.SKIPPED, "words": why}

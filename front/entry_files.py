@@ -8,6 +8,7 @@ from .badfile import BadFile
 from .hints import echo, near, offer
 from .jobfiles import File, octets_of
 from .tables import Table
+from .units import is_unit, split
 
 SEPARATORS = ",;\t"
 # A heading's unit: 'Prover temperature (°F)'.
@@ -17,6 +18,9 @@ UNIT = re.compile(r"\s*[(\[]([^)\]]*)[)\]]\s*$")
 def tables(top, key, known):
     """A table a line of the file, after the line of headings. [runs] says which file, which of its columns are no part
     of the job, and the headings of those that are not called by their keys."""
+    if isinstance(top.values[f"{key}s"], list):
+        top.bad(f"{key}s", f"expected [[{key}]], one for each {key}, or [{key}s] with the name of a file")
+        return []
     own = top.table(f"{key}s")
     own.only(["file", "ignore", *known])
     if key in top.values:
@@ -94,11 +98,21 @@ def columns_of(file, row, headings, left_out):
         elif key in seen:
             file.fault(1, f"{echo(heading)}: stands there twice: expected once")
         seen.add(key)
-        unit = UNIT.search(heading)
-        columns.append((key, unit[1] if unit and folded(heading) not in headings else ""))
+        columns.append((key, unit_of(heading, folded(heading) in headings)))
     return columns
 
 
+def unit_of(heading, said):
+    """The unit behind a heading, (°F), which its column is then held against. Where the job file says the heading
+    itself, it may hold other words in brackets."""
+    match = UNIT.search(heading)
+    return match[1] if match and (not said or is_unit(match[1])) else ""
+
+
 def values_of(row, columns):
-    """The cells that hold something, with the unit that their heading names."""
-    return {key: f"{cell.strip()} {unit}".strip() for cell, (key, unit) in zip(row, columns) if key and cell.strip()}
+    """The cells that hold something; a bare number has the unit that its heading names."""
+    return {key: with_unit(cell.strip(), unit) for cell, (key, unit) in zip(row, columns) if key and cell.strip()}
+
+
+def with_unit(cell, unit):
+    return cell if split(cell)[1] else f"{cell} {unit}".strip()

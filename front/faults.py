@@ -4,7 +4,7 @@ table of ranges, or by asking the line program; nothing is worked out here."""
 from . import fields, figures
 from .program import Refused, hexed
 from .records import FILL_LAYOUT, RUN_LAYOUT
-from .refusals import Explained
+from .refusals import Detail, Explained
 from .units import shown
 
 
@@ -15,7 +15,10 @@ def explain(job, refusal, program):
 
 def out_of_range(counts, known, at=""):
     return [
-        f"{at}{field.label} is {field.text(counts[key])}, range {field.range}"
+        Detail(
+            f"{at}{field.label} is {field.text(counts[key])}, range {field.range}",
+            *(key, counts[key], field.low, field.high, field.unit),
+        )
         for key, field in known.items()
         if not field.within(counts[key])
     ]
@@ -35,11 +38,21 @@ def of_unnamed_bytes(record, layout, at):
     """The bytes that differ from those of a record made of the same fields."""
     made = layout.pack(layout.unpack(record))
     wrong = [place for place in range(len(record)) if record[place] != made[place]]
-    return [f"{at}byte {place} is {record[place]:02x}, range 00" for place in wrong]
+    words = "{at}byte {place} is {value:02x}, range 00".format
+    return [
+        Detail(words(at=at, place=place, value=record[place]), f"byte {place}", record[place], 0, 0, fields.NUMBER)
+        for place in wrong
+    ]
 
 
 def of_count(what, count, ends):
-    return [f"{what}: {count}, range {ends[0]} to {ends[1]}"]
+    return [Detail(f"{what}: {count}, range {ends[0]} to {ends[1]}", what, count, *ends, fields.NUMBER)]
+
+
+def unknown(key, field, given, at):
+    """A figure that no entry tells, by what it is worked from."""
+    words = f"{at}{field.label} is {given}, range {field.range}"
+    return Detail(words, key, None, field.low, field.high, field.unit)
 
 
 def of_proving(job, refusal, program):
@@ -61,13 +74,13 @@ def of_proving(job, refusal, program):
             return of_unnamed_bytes(run.record, RUN_LAYOUT, at)
         case 7:
             given = f"{fields.PULSE.text(run.counts['pulses'])} ÷ {fields.K_FACTOR.text(job.k_factor)}"
-            return [f"{at}{fields.INDICATED.label} is {given}, range {fields.INDICATED.range}"]
+            return [unknown("indicated", fields.INDICATED, given, at)]
         case 8:
             given = (
                 f"that of {fields.PULSE.text(run.counts['pulses'])}, {fields.K_FACTOR.text(job.k_factor)}"
                 f" and a base volume of {fields.BASE_VOLUME.text(job.prover.base)}"
             )
-            return [f"{at}{fields.RUN_FACTOR.label} is {given}, range {fields.RUN_FACTOR.range}"]
+            return [unknown("factor", fields.RUN_FACTOR, given, at)]
         case 9:
             told = " ".join(shown(own["factor"], 4) for own in figures.of_runs(job, program))
             limit = fields.LIMIT.text(job.limit)
@@ -91,7 +104,8 @@ def of_draw(job, refusal, program):
         case 2:
             return of_unnamed_bytes(fill.record, FILL_LAYOUT, at)
         case 6:
-            return [at + broken_pass(job.fills[: refusal.record])]
+            words = at + broken_pass(job.fills[: refusal.record])
+            return [Detail(words, "pass", fill.counts["pass"], unit=fields.NUMBER)]
         case 9:
             _, *volumes = program.numbers("passes", *job.prover.words, hexed(job.records))
             told = " ".join(shown(volume, 2) for volume in volumes)
@@ -115,7 +129,9 @@ def of_ticket(job, refusal, program):
     if refusal.number == 10:
         return out_of_range(job.counts, fields.TICKET)
     opening, closing = (fields.TICKET[key].text(job.counts[key]) for key in ("opening", "closing"))
-    return [f"closing reading is {closing}, range {opening} (the opening reading) or more"]
+    words = f"closing reading is {closing}, range {opening} (the opening reading) or more"
+    known = fields.TICKET["closing"]
+    return [Detail(words, "closing", job.counts["closing"], job.counts["opening"], known.high, known.unit)]
 
 
 def of_live(job, refusal, program):
@@ -127,7 +143,8 @@ def of_live(job, refusal, program):
         key = "temperature"
     field, given = fields.LIVE[key], job.singles[key]
     judged = f"range {field.range} to the nearest {field.unit.step}"
-    return [f"{field.label} is {given.text} (single {given.bits}), {judged}"]
+    words = f"{field.label} is {given.text} (single {given.bits}), {judged}"
+    return [Detail(words, key, None, field.low, field.high, field.unit)]
 
 
 FINDERS = {"prove": of_proving, "draw": of_draw, "ticket": of_ticket, "live": of_live}

@@ -92,13 +92,21 @@ LIVE = described(
 READ = "Prints what a 32-byte report record says: request, meter factor, the accepted runs and their factors."
 BOOK = "\n".join(
     [
-        "Works through a session and shows the four lines after each step. A session file that has a",
-        "refused step exits 1; at the keyboard refusals are told and the session goes on.",
+        "Works through a session and shows the four lines after each step. A session file is checked whole",
+        "before its first step; one that has a refused step exits 1. At the keyboard refusals are told and the",
+        "session goes on; lines can be edited and called back. --keep FILE goes on from the book that an earlier",
+        "session left, and writes it after each change, whole or not at all.",
         "",
         "steps:",
         *("  " + line for line in books.STEPS.splitlines()),
     ]
 )
+NEW = """\
+Prints a job file of a kind, every key with what it is and its range. It runs as it is; put your own
+figures in place of its own."""
+LINES = """\
+Runs the line program on standard input and output, once it is built: docs/LINES.md has its lines. Every
+figure that the other commands show is an answer of it."""
 REWORK = """\
 Works every *.toml of the folders, and every file named, of any kind, on all cores. Each job is a row of the
 CSV: its headings, settings, figures, refusal, the file's SHA-256 and the version. Each refusal and bad file
@@ -106,3 +114,8 @@ is a line, and each meter one at the end. What cannot be read, is a pipe or take
 line; a request number that comes twice is remarked on. Ctrl-C ends after the jobs in hand and the rows
 worked stay; a second Ctrl-C ends at once and writes nothing. Exits 0 when all were accepted, 1 when one was
 refused, 2 when a file was bad or skipped, 3 on an unexpected error, 130 after Ctrl-C."""
+VERIFY = """\
+Says whether a report is of a job: a page as text or for print, a plot, a worksheet or workbook, JSON, a
+report record, or a CSV of rework's. It must carry the job file's SHA-256 (a record has none and is compared),
+and all of it must be what the job comes to when it is worked again; the file's name may have changed. Exits
+0 when it is, 1 when it is of another job or was changed, 2 when it carries no SHA-256."""

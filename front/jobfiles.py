@@ -1,6 +1,7 @@
 """Reading a job file: TOML, exact numbers, and words that help where it is wrong. All faults of a file are told at
 once, first to last, each with its line and the text there."""
 
+import contextlib
 import sys
 from functools import cached_property
 from pathlib import Path
@@ -12,19 +13,26 @@ from .hints import plain
 # How a file is called in words where its name is a sign.
 NAMES = {"-": "standard input"}
 LAST = sys.maxsize
+# Some ten times what the most runs take that a line of the program holds.
+MOST_OCTETS = 16_000_000
+
+
+def standard_input():
+    if not sys.stdin:
+        raise BadFile(NAMES["-"], "", "is closed: expected a file there")
+    return sys.stdin.buffer
 
 
 def octets_of(path):
     """The file as it stands, read once; `-` is standard input."""
-    if path == "-":
-        if not sys.stdin:
-            raise BadFile(NAMES[path], "", "is closed: expected a job file")
-        return sys.stdin.buffer.read()
     try:
-        with open(path, "rb") as file:
-            return file.read()
+        with contextlib.nullcontext(standard_input()) if path == "-" else open(path, "rb") as file:
+            octets = file.read(MOST_OCTETS + 1)
     except (OSError, ValueError) as fault:
         raise BadFile(path, "", f"cannot be read: {getattr(fault, 'strerror', None) or fault}") from fault
+    if len(octets) > MOST_OCTETS:
+        raise BadFile(NAMES.get(path, path), "", f"is larger than any job: expected at most {MOST_OCTETS:,} bytes")
+    return octets
 
 
 class File:
@@ -38,7 +46,8 @@ class File:
             # Some editors put a byte order mark before a text.
             self.text = octets.decode("utf-8-sig").replace("\r\n", "\n")
         except UnicodeDecodeError as fault:
-            raise BadFile(self.path, "", f"is not text in UTF-8: expected {expected}") from fault
+            line = octets[: fault.start].count(b"\n") + 1
+            raise BadFile(self.path, "", f"is not text in UTF-8 at line {line}: expected {expected}") from fault
 
     @cached_property
     def places(self):

@@ -14,13 +14,14 @@ from .badfile import BadFile
 from .hints import plain
 
 STANDARD = "-"
+NAMES = {STANDARD: "standard output"}
 
 
 class NotWritten(Exception):
     """An output that cannot be written; what stood in its place still stands there."""
 
     def __init__(self, path, reason):
-        super().__init__(f"{plain(str(path))}: cannot be written: {reason}")
+        super().__init__(f"{plain(NAMES.get(path, str(path)))}: cannot be written: {reason}")
 
 
 def identity(path):
@@ -78,6 +79,8 @@ def write(path, content):
 def opened(path):
     """A file of bytes to write to; it takes its place when the block ends, and is gone when the block fails."""
     try:
+        if path == STANDARD and not sys.stdout:
+            raise OSError(None, "it is closed")
         if path == STANDARD:
             yield sys.stdout.buffer
             sys.stdout.buffer.flush()
@@ -106,6 +109,8 @@ def beside(place):
             if old:
                 # The old file is given up for one that is on the disk.
                 os.fsync(handle)
+        if not old and os.path.lexists(place):
+            raise FileExistsError(None, "a file has come there meanwhile")
         os.replace(part, place)
     except BaseException:
         with contextlib.suppress(OSError):

@@ -67,6 +67,11 @@ class Page:
         return f"NOT ACCEPTED: {self.verdict[0]}" if self.verdict else ""
 
 
+def origin(job):
+    """What everything that is made of a job carries in one line."""
+    return f"SHA-256 of the job file {job.digest}, worked by {version.NAME}"
+
+
 def heading(job, by_hand=BY_HAND):
     """Which job this is, what its file says of it, and room for what it does not."""
     told = [("Job file", job.path), ("SHA-256 of the job file", job.digest), ("Worked by", version.NAME)]

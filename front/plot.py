@@ -3,6 +3,7 @@
 import re
 from xml.sax.saxutils import escape
 
+from . import page
 from .fields import LIMIT
 from .plot_scale import BOTTOM, HEIGHT, LEFT, RIGHT, TOP, WIDTH, Scale
 from .units import shown
@@ -10,6 +11,7 @@ from .units import shown
 INK, QUIET, ACCEPTED, BAND, OTHER = "#1f2933", "#9aa5b1", "#0b6e4f", "#cfe8dc", "#ffffff"
 REFUSED = "#a4161a"
 LONGEST_NAME = 66
+UNTITLED = "Meter proving"
 
 
 def words(text):
@@ -94,8 +96,8 @@ def legend(job, outcome):
 
 
 def headline(job):
-    """The job's title, or its file, cut to what the picture holds."""
-    name = job.heading.get("title", job.path)
+    """The job's title, cut to what the picture holds."""
+    name = job.heading.get("title", UNTITLED)
     return name if len(name) <= LONGEST_NAME else name[:LONGEST_NAME] + " .."
 
 
@@ -118,6 +120,7 @@ def draw(worked):
         f'<svg xmlns="http://www.w3.org/2000/svg" width="{WIDTH}" height="{HEIGHT}" viewBox="0 0 {WIDTH} {HEIGHT}"'
         f' font-family="DejaVu Sans, Arial, sans-serif" fill="{INK}" role="img">',
         f"<title>{words(name)}: {words(told)}</title>",
+        f"<desc>{page.origin(job)}</desc>",
         f'<rect width="{WIDTH}" height="{HEIGHT}" fill="#ffffff"/>',
         label(LEFT, 34, name, "start", 18, ' font-weight="bold"'),
         label(LEFT, 58, f"Request {job.request}: {told}", "start", 15, colour),

@@ -30,6 +30,15 @@ WORDS = {
 }
 
 
+class Detail(str):
+    """A detail in words that also has its field, value and range for machines: counts of the field's unit."""
+
+    def __new__(cls, words, field, value=None, low=None, high=None, unit=None):
+        made = super().__new__(cls, words)
+        made.field, made.value, made.low, made.high, made.unit = field, value, low, high, unit
+        return made
+
+
 @dataclass(frozen=True)
 class Explained:
     """A refusal as people read it; `details` name the record, the field, its value and its range."""

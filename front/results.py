@@ -24,13 +24,18 @@ COLUMNS = (
 )  # fmt: skip
 
 
-def worked(path, program):
-    """A row, by its columns; what a job has not is left out."""
+def worked(path, program, extras):
+    """A row, by its columns; what a job has not is left out. `extras` are made of the job on the way."""
     try:
         job = jobs.read(path)
     except BadFile as bad:
         return {"outcome": BAD, "words": bad.words, "SHA-256": digest_of(path)}
+    return of_job(path, job, program, extras)
+
+
+def of_job(path, job, program, extras):
     row = {"job": job.kind, "SHA-256": job.digest, "files": job.files, **headings(job), **GIVEN[job.kind](job)}
+    row |= extras.make(path, job, program)
     try:
         return row | {"outcome": ACCEPTED} | ANSWERS[job.kind](job, program)
     except Refused as refused:

@@ -6,14 +6,14 @@ import os
 import signal
 import sys
 
-from . import outputs
+from . import as_json, extras, outputs
 from .crew import IN_HAND, Crew
 from .finding import find
 from .hints import plain
 from .meters import Meters
 from .program import ProgramFailed
 from .results import ACCEPTED, BAD, COLUMNS, REFUSED, SKIPPED, cells
-from .ticker import Ticker
+from .ticker import Ticker, say
 
 FAILED, STOPPED = 3, 130
 
@@ -42,14 +42,15 @@ def rework(options, program):
     """The exit status: 0 all accepted, 1 some refused, 2 some bad or skipped, 3 an unexpected error, 130 stopped."""
     found = find(options.jobs, options.recursive)
     outputs.check(found.paths, options.places, options.force)
+    wanted = extras.of(options, found.paths)
     program.ready()
-    out = sys.stderr if options.csv == outputs.STANDARD else sys.stdout
+    out = sys.stderr if options.json or options.csv == outputs.STANDARD else sys.stdout
     count = min(len(os.sched_getaffinity(0)), 1 + len(found.paths) // IN_HAND)
-    with outputs.opened(options.csv) as octets, Stop() as stop, Crew(count, options.patience) as crew:
+    with outputs.opened(options.csv) as octets, Stop() as stop, Crew(count, options.patience, wanted) as crew:
         # With a byte order mark, as worksheets have it.
         file = io.TextIOWrapper(octets, "utf-8-sig", newline="", write_through=True)
         ticker = Ticker(len(found.paths), "jobs", sys.stderr, out)
-        book = Sheet(file, ticker, options.jobs)
+        book = Sheet(file, ticker, options.jobs, options.json)
         try:
             book.fill(found, crew, stop)
         finally:
@@ -57,15 +58,17 @@ def rework(options, program):
         # Only now is it known which other files the jobs name.
         outputs.check(book.files, options.places, True)
         file.detach()
-    print("\n".join(book.summary(found, stop.asked, options.csv)), file=out)
+    say("\n".join(book.summary(found, stop.asked, options.csv)), out)
+    if options.json:
+        say(as_json.text(as_json.summary(book.counts, stop.asked, options.csv, options.reports)), sys.stdout)
     return STOPPED if stop.asked else book.status
 
 
 class Sheet:
     """The rows, written in the files' order as soon as all before are known, and what they come to."""
 
-    def __init__(self, file, ticker, places):
-        self.rows, self.ticker = csv.writer(file), ticker
+    def __init__(self, file, ticker, places, tells):
+        self.rows, self.ticker, self.tells = csv.writer(file), ticker, tells
         self.base = os.path.join(places[0], "") if len(places) == 1 and os.path.isdir(places[0]) else ""
         self.counts = {ACCEPTED: 0, REFUSED: 0, BAD: 0, SKIPPED: 0}
         self.requests, self.files, self.meters, self.unexpected = {}, set(), Meters(), False
@@ -80,7 +83,6 @@ class Sheet:
             if "failed" in row:
                 raise ProgramFailed(row["failed"])
             known[path] = row
-            self.ticker.done += 1
             while following in known:
                 self.write(following, known.pop(following))
                 following = next(wanted, None)
@@ -96,10 +98,13 @@ class Sheet:
         elif request:
             self.requests[request] = name
         self.rows.writerow(cells(name, row))
+        self.ticker.done += 1
         self.counts[row["outcome"]] += 1
         self.files.update(row.get("files", ()))
         self.unexpected = self.unexpected or "unexpected" in row
         self.meters.add(row)
+        if self.tells:
+            say(as_json.text(row.get("json") or as_json.unread(path, row)), sys.stdout)
         for words in filter(None, (self.told(row), row.get("remark"))):
             self.ticker.say(plain(f"{path}: {words}"))
 

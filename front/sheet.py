@@ -1,10 +1,11 @@
-"""A sheet of labelled rows with live formulas, written as CSV. Rows have names, for formulas and tests to find them."""
+"""A sheet of labelled rows with live formulas, written as CSV, or by workbook for Excel. Rows have names, for formulas
+and tests to find them."""
 
 import csv
 import io
 from typing import NamedTuple
 
-from . import version
+from .page import origin
 
 # The label, the unit of one and how it is worked stand before the figures.
 FIRST_COLUMN = 3
@@ -51,11 +52,16 @@ class Sheet:
     def __init__(self, title, job):
         self.rows = []
         self.places = {}
-        self.note(f"{title}: {job.path}")
-        self.note(f"SHA-256 of the job file {job.digest}, worked by {version.NAME}")
-        self.note("Figures are whole counts of the unit beside them; the last part has them with their points.")
+        # The rows that are headings of parts, and the decimals of those that have any.
+        self.headings, self.decimals = set(), {}
+        self.title = f"{title}: {job.path}"
+        self.origin = origin(job)
+        about = "Figures are whole counts of the unit beside them; the last part has them with their points."
+        self.rows += [[text(words)] for words in (self.title, self.origin, about)]
 
     def note(self, *words):
+        """The heading of a part."""
+        self.headings.add(len(self.rows))
         self.rows.append([text(word) for word in words])
 
     def row(self, key, label, unit, how, cells):
@@ -88,6 +94,10 @@ class Sheet:
         self.row("smallest", "Smallest", unit, "of the group", [f"=MIN({span})" for span in spans])
         test = (
             Step("spread", "Spread", "", "(largest - smallest) x 10,000", "({largest}-{smallest})*10000"),
+            Step(
+                "percent", "Spread of the smallest", "0.001 %", "(largest - smallest) / smallest, rounded",
+                "ROUND(({largest}-{smallest})*100000/{smallest},0)",
+            ),
             Step("allowed", "Allowed", "", "limit x smallest", limit + "*{smallest}"),
             Step("meets", "Meets the limit", "", "1 where spread <= allowed", "IF({spread}<={allowed},1,0)"),
         )
@@ -118,6 +128,7 @@ class Sheet:
         cells = [self.cell(key, at) for at in columns]
         shown = [f'=IF(ISNUMBER({cell}),{cell}/{10**places},"none")' for cell in cells]
         self.row(f"read_{key}", label, unit, "", shown)
+        self.decimals[self.places[f"read_{key}"]] = places
 
     def whole(self, key):
         """All cells of a row."""

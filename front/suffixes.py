@@ -2,10 +2,12 @@
 
 from pathlib import Path
 
+from . import workbook
 from .badfile import BadFile
 from .outputs import STANDARD, is_special
 
-KNOWN = {"--worksheet": (".csv", ".xlsx"), "--plot": (".svg",), "--html": (".html", ".htm")}
+WORKBOOK = ".xlsx"
+KNOWN = {"--worksheet": (".csv", WORKBOOK), "--plot": (".svg",), "--html": (".html", ".htm")}
 
 
 def of(path):
@@ -20,3 +22,5 @@ def check(places):
         if of(path) not in KNOWN[option]:
             found = f"ends in {of(path)}" if of(path) else "has no ending"
             raise BadFile(path, option, f"{found}: expected {' or '.join(KNOWN[option])}")
+        if of(path) == WORKBOOK:
+            workbook.check(path)

@@ -46,14 +46,15 @@ class Table:
             self.bad(key, f"missing: expected {told}", missing=True)
 
     def table(self, key, needed=True):
-        if key not in self.values and needed and self.whole:
+        if key not in self.values and needed and self.whole and key not in self.slipped:
             self.bad("", f"the table [{key}] is missing")
         return Table(self.file, f"[{key}]", self.values.get(key, None if needed else {}), (*self.path, key))
 
     def tables(self, key, name):
         """An array of tables, [[key]], each placed by its name and number."""
         if key not in self.values:
-            self.bad("", f"[[{key}]] is missing: expected one for each {name}")
+            if key not in self.slipped:
+                self.bad("", f"[[{key}]] is missing: expected one for each {name}")
             return []
         listed, path = self.values[key], (*self.path, key)
         if not isinstance(listed, list):

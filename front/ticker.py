@@ -1,5 +1,7 @@
 """How far a long work has come: on a terminal a bar with the seconds passed, redrawn until it ends; else nothing."""
 
+import os
+import sys
 import threading
 import time
 
@@ -12,6 +14,19 @@ def bar(done, total):
     """A bar as wide as always, filled by the share that is done."""
     filled = WIDTH * done // total
     return "[" + "#" * filled + "." * (WIDTH - filled) + "]"
+
+
+def say(line, out):
+    """A line of a work that goes on, though whoever reads its lines has gone, as head does."""
+    try:
+        print(line, file=out, flush=True)
+    except BrokenPipeError:
+        silence(out or sys.stdout)
+
+
+def silence(stream):
+    """Nothing more goes to a stream whose reader has gone, at exit neither."""
+    os.dup2(os.open(os.devnull, os.O_WRONLY), stream.fileno())
 
 
 class Ticker:
@@ -39,7 +54,7 @@ class Ticker:
         with self.drawing:
             if self.shows:
                 print(CLEAR, end="", file=self.err, flush=True)
-            print(line, file=self.out, flush=True)
+            say(line, self.out)
 
     def end(self):
         if self.shows:

@@ -7,7 +7,7 @@ from .hints import echo, without_commas
 
 # Stands in a place whose line has been told already; no text that people write has this sign.
 TOLD = "\ufdd0"
-MOST_LINES = 100
+MOST_LINES = 40
 AT = re.compile(r" \(at (?:line (\d+), column \d+|end of document)\)$")
 ASSIGNED = re.compile(r"""\s*([A-Za-z0-9_-]+)\s*=\s*([^#]*?)\s*(?:\#.*)?""")
 COMMAS = re.compile(r"[+-]?\d[\d.]*(?:,\d+)+(?:\.\d+)?")
@@ -78,6 +78,8 @@ def said(line, words):
         return f"{echo(value)} {TOO_LONG}"
     if COMMAS.fullmatch(value):
         return f"{echo(value)} has a comma: {echo(without_commas(value))}"
+    if value[0] in "\"'" and value.count(value[0]) == 1:
+        return f"{echo(value)} has no closing quote"
     if HALF.fullmatch(value):
         return f"{echo(value)} is no number of TOML: expected digits on both sides of the point"
     if ZEROS.fullmatch(value):

@@ -15,6 +15,12 @@ COMMAS = re.compile(r"[+-]?\d[\d.]*(?:,\d+)+(?:\.\d+)?", re.ASCII)
 # Signs that stand for the degree's; compatibility forms of Unicode make letters or accents of them.
 DEGREES = str.maketrans("º˚−", "°°-")
 CELSIUS = ("c", "celsius", "centigrade")
+# Units that no field has, as `normal` leaves them: a column of these is never one of ours.
+FOREIGN = (*CELSIUS, "k", "kelvin", "kpa", "mpa", "bar", "barg", "psia", "mm", "cm", "m", "m3", "l", "gal", "ft")
+
+
+# Every spelling of every unit.
+SPELLED = set()
 
 
 class Inexact(ValueError):
@@ -29,6 +35,9 @@ class Unit:
     places: int
     spellings: tuple = ()
     of_one: str = ""
+
+    def __post_init__(self):
+        SPELLED.update(self.spellings)
 
     @property
     def step(self):
@@ -98,6 +107,10 @@ def normal(unit):
     """A unit's name without what people write in several ways: case, spaces, points, the degree's sign or word."""
     folded = unicodedata.normalize("NFKC", unit.translate(DEGREES)).casefold()
     return re.sub(r"[\s.°]|deg(rees?)?", "", folded)
+
+
+def is_unit(words):
+    return normal(words) in SPELLED or normal(words) in FOREIGN
 
 
 def shown(count, places, group=True):

@@ -40,7 +40,8 @@ def wrong_programs(crate):
         if not wrongs:
             yield edit.stem, None, ""  # no wave yet: the edit is its own label
         for wrong in wrongs:
-            yield wrong.label, wrong.function, "definition" if waves.is_definition(wrong) else "promise" if waves.is_promise(wrong) else ""
+            changes = waves.kind(wrong, ROOT / "crates" / crate)
+            yield wrong.label, wrong.function, changes if changes in ("definition", "promise") else ""
 
 
 PAGE = (ROOT / "docs/CONTRACTS.md").read_text()

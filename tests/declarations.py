@@ -38,8 +38,8 @@ def without_comments(text, comment):
 
 def rattle_text():
     text = without_comments("\n".join(source.read_text() for source in SOURCES), r"//[^\n]*")
-    places = re.search(r"const PLACES: usize = (\d+);", text)
-    return text.replace("Book::PLACES", places[1])
+    width = re.search(r"const WIDTH: usize = (\d+);", text)
+    return text.replace("Line::WIDTH", width[1])
 
 
 def c_type(rattle):

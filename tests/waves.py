@@ -60,18 +60,33 @@ def read_edit(text):
     for function, count in collections.Counter(wrong.function for wrong in wrongs).items():
         if count > 1:
             faults.append(f"{function} is changed by {count} labels at once")
-    if len(wrongs) > 1 and any(is_definition(wrong) for wrong in wrongs):
-        faults.append("a definition is changed beside other wrong programs")
     return wrongs, faults
 
 
-def is_definition(wrong):
-    return any(file.startswith("specs/") for file, _, _ in wrong.pairs)
+def kind(wrong, crate):
+    """What a wrong program changes: a definition or a constant, which other functions share, a promise, or its function's code."""
+    kinds = set()
+    for file, old, _ in wrong.pairs:
+        if file.startswith("specs/"):
+            kinds.add("definition")
+        elif file.startswith("src/"):
+            lines = (crate / file).read_text().splitlines() if (crate / file).exists() else []
+            found = [line for line in lines if old in line] or [old]
+            if any(re.match(r"\s*(pub )?const ", line) for line in found):
+                kinds.add("constant")
+            elif any("⌜" in line for line in found):
+                kinds.add("promise")
+    return next((one for one in ("definition", "constant", "promise") if one in kinds), "program")
 
 
-def is_promise(wrong):
-    """The function's promise is changed and not its code."""
-    return not is_definition(wrong) and any(file.startswith("src/") and ("≡" in old or "≡" in new) for file, old, new in wrong.pairs)
+def mixed(wrongs, crate):
+    """What must not stand beside other wrong programs: they would be refused for its sake."""
+    kinds = [kind(wrong, crate) for wrong in wrongs]
+    for shared in ("definition", "constant"):
+        if shared in kinds and len(wrongs) > 1:
+            yield f"a {shared} is changed beside other wrong programs"
+    if "promise" in kinds and "program" in kinds:
+        yield "a promise is changed beside wrong programs"
 
 
 def errors(log):
@@ -103,8 +118,8 @@ def refusals(crate, function, log):
             yield "`search` does not close" in line, line
 
 
-def faults_of(crate, wrong, log):
-    if is_definition(wrong):
+def faults_of(crate, wrong, log, changes):
+    if changes == "definition":
         if not any(is_fact(text) for _, text in errors(log)):
             yield f"{wrong.label} (a definition): the log has no fact that fails"
         return
@@ -120,9 +135,11 @@ def faults_of(crate, wrong, log):
 
 def faults_in(root, edit):
     """The faults of one edit, and its wrong programs."""
-    crate = edit.parent.parent.name
+    folder = edit.parent.parent
+    crate = folder.name
     tried = root / "target/must-fail" / crate / edit.stem
     wrongs, faults = read_edit(edit.read_text())
+    faults += mixed(wrongs, folder)
     if not wrongs:
         faults.append("it has no wrong program")
     log = tried / ".log"
@@ -136,7 +153,7 @@ def faults_in(root, edit):
                 faults.append(f"{wrong.label}: the log is of another edit")
                 break
         else:
-            faults += faults_of(crate, wrong, text)
+            faults += faults_of(crate, wrong, text, kind(wrong, folder))
     return wrongs, faults
 
 
@@ -150,10 +167,9 @@ def run(root, crates):
         wrongs, found = faults_in(root, edit)
         faults += [f"{crate}/{edit.stem}: {fault}" for fault in found]
         for wrong in wrongs:
-            if is_definition(wrong):
-                others.append(f"{crate}/{wrong.label} (definition)")
-            elif is_promise(wrong):
-                others.append(f"{crate}/{wrong.label} (promise)")
+            changes = kind(wrong, edit.parent.parent)
+            if changes in ("definition", "promise"):
+                others.append(f"{crate}/{wrong.label} ({changes})")
             else:
                 programs += 1
     labels = collections.Counter((edit.parent.parent.name, wrong.label) for edit in root.glob("crates/*/must-fail/*.edit") for wrong in read_edit(edit.read_text())[0])
@@ -187,6 +203,9 @@ MADE_UP = [
     ("# a in f: why", f"C/proofs/f/Proof.antt:9:1: error: {DIFFER}", "replaces nothing"),
     ("# a in f: why\nfile: src/lib.rt\nold: x\nnew: y\n# b in f: why\nold: x\nnew: y", f"C/proofs/f/Proof.antt:9:1: error: {DIFFER}", "by 2 labels at once"),
     ("# a in f: why\nfile: specs/A.antt\nold: x\nnew: y\n# b in g: why\nfile: src/lib.rt\nold: x\nnew: y", f"C/proofs/g/Proof.antt:9:1: error: {DIFFER}", "beside other wrong programs"),
+    ("# a in f: why\nfile: src/lib.rt\nold: P\nnew: y\n# b in g: why\nold: Q\nnew: y", f"C/proofs/f/Proof.antt:9:1: error: {DIFFER}\nC/proofs/g/Proof.antt:9:1: error: {DIFFER}", None),
+    ("# a in f: why\nfile: src/lib.rt\nold: P\nnew: y\n# b in g: why\nold: x\nnew: y", f"C/proofs/f/Proof.antt:9:1: error: {DIFFER}\nC/proofs/g/Proof.antt:9:1: error: {DIFFER}", "a promise is changed beside"),
+    ("# a in f: why\nfile: src/lib.rt\nold: 16\nnew: y\n# b in g: why\nold: x\nnew: y", f"C/proofs/f/Proof.antt:9:1: error: {DIFFER}\nC/proofs/g/Proof.antt:9:1: error: {DIFFER}", "a constant is changed beside"),
     ("# a in f: why\nfile: src/lib.rt\nold: x\nnew: y\n# a in g: why\nold: x\nnew: y", f"C/proofs/f/Proof.antt:9:1: error: {DIFFER}\nC/proofs/g/Proof.antt:9:1: error: {DIFFER}", "stands 2 times"),
 ]
 
@@ -196,8 +215,10 @@ def misjudged():
     for number, (edit, log, words) in enumerate(MADE_UP, 1):
         with tempfile.TemporaryDirectory() as folder:
             root = pathlib.Path(folder)
-            tried = root / "target/must-fail/C/wave_1"
-            for path, text in ((root / "crates/C/must-fail/wave_1.edit", edit), (tried / "src/lib.rt", "y"), (tried / "specs/A.antt", "y"), (tried / ".log", log)):
+            source = "    ensures { λ r. ⌜ P ⌝ }\n    ensures { λ r. ⌜ Q ⌝ }\nconst N: usize = 16;\nx"
+            files = {"crates/C/must-fail/wave_1.edit": edit, "crates/C/src/lib.rt": source, "target/must-fail/C/wave_1/.log": log}
+            files |= {f"target/must-fail/C/wave_1/{name}": "y" for name in ("src/lib.rt", "specs/A.antt")}
+            for path, text in ((root / name, text) for name, text in files.items()):
                 if text is not None:
                     path.parent.mkdir(parents=True, exist_ok=True)
                     path.write_text(text + "\n")

@@ -1,4 +1,4 @@
-"""The tests of the front end, a line each. Run: python3 tests/front [NAME ..]"""
+"""The tests of the front end, a line each. Run: python3 tests/front [NAME .. | PART/PARTS]"""
 
 import importlib
 import sys
@@ -10,17 +10,24 @@ HERE = Path(__file__).resolve().parent
 sys.path[:0] = [str(HERE), str(HERE.parent), str(HERE.parents[1])]
 NAMES = (
     "examples", "badfiles", "faultlines", "spellings", "entryfiles", "damaged", "ranges", "reports", "spreads",
-    "readback", "outputs", "losses", "worksheets", "halves", "plots", "prints",
-    "reworks", "obstacles", "sessions",
-    "building", "helping", "readme", "sums",
+    "readback", "outputs", "losses", "worksheets", "workbooks", "halves", "plots", "prints", "machines", "verifying",
+    "pagefolders", "reworks", "obstacles", "sessions", "keeping", "newfiles", "building", "helping", "readme", "sums",
 )  # fmt: skip
+
+
+def chosen(words):
+    """The tests that are named; 1/2 and 2/2 are all of them in two parts, which may run side by side."""
+    if len(words) == 1 and "/" in words[0]:
+        part, parts = map(int, words[0].split("/"))
+        return NAMES[part - 1 :: parts]
+    return words or NAMES
 
 
 def main():
     # Before any test: what it tells of its progress is no part of a command's output.
     importlib.import_module("front.build").ensure()
     failed = 0
-    for name in sys.argv[1:] or NAMES:
+    for name in chosen(sys.argv[1:]):
         began = time.monotonic()
         try:
             tally = importlib.import_module(name).test()

@@ -99,6 +99,25 @@ def terminal(tally, fresh):
     tally.holds(shown, f"[{'#' * 30}] {total} of {total} crates proved, 0 s", "bar at a terminal")
 
 
+def other_commands(tally, fresh):
+    """rework and lines build it too, before they begin anything; --version and new need none."""
+    launcher, job = fresh.command[0], fresh.command[-1]
+    for words, given, expected in (
+        (["rework", job, "--csv", "-"], "", "accepted"),
+        (["lines"], "cpl 0 0 4\n", "ok 10000\n"),
+    ):
+        shutil.rmtree(fresh.root / "target")
+        pipes = {"input": given, "capture_output": True, "text": True}
+        done = subprocess.run([launcher, *words], env=fresh.env, timeout=60, **pipes)
+        tally.same(done.returncode, 0, f"{words[0]} on first use: {done.stderr!r}")
+        tally.holds(done.stdout, expected, f"{words[0]} on first use")
+    shutil.rmtree(fresh.root / "target")
+    before = fresh.builds
+    tally.holds(run_plain([launcher, "--version"], fresh.env)[1], "not built yet", "--version before first use")
+    tally.same((run_plain([launcher, "new", "prove"], fresh.env)[0], fresh.builds), (0, before), "new builds nothing")
+    (fresh.root / "target").mkdir()
+
+
 def failing(tally, fresh):
     shutil.rmtree(fresh.root / "target")
     fresh.fails.touch()
@@ -115,6 +134,6 @@ def test():
     tally = Tally("building")
     with tempfile.TemporaryDirectory() as folder:
         fresh = Fresh(folder)
-        for part in (first_use, later_use, terminal, failing):
+        for part in (first_use, later_use, terminal, other_commands, failing):
             part(tally, fresh)
     return tally

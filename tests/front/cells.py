@@ -21,6 +21,8 @@ def groups(values, size, limit, judged):
         own = values[at : at + size]
         meets, mean = judged(at)
         cells |= {("largest", at): max(own), ("smallest", at): min(own), ("meets", at): meets}
+        # As the entry `spread` has it: 0.001 % of the smallest, halves up.
+        cells["percent", at] = (2 * (max(own) - min(own)) * 100_000 + min(own)) // (2 * min(own))
         cells |= {("spread", at): (max(own) - min(own)) * 10_000, ("allowed", at): limit * min(own)}
         # No entry tells the mean of a group that meets no limit.
         cells["mean", at] = (2 * sum(own) + size) // (2 * size) if mean is None else mean

@@ -8,6 +8,7 @@ from pathlib import Path
 from harness import ROOT, Tally
 
 from front import results
+from front.extras import Extras
 from front.program import Program
 
 FILES = 1200
@@ -49,7 +50,7 @@ def test():
                 text = damaged(text, rng)
             path.write_text(text)
             try:
-                row = results.worked(str(path), program)
+                row = results.worked(str(path), program, Extras())
             except Exception as fault:
                 tally.check(False, f"file {number}: {type(fault).__name__}: {fault}\n{text}")
                 break

@@ -1,15 +1,24 @@
-"""Debian's packages that the tests need, installed where they are missing: python3 tests/front/debian.py installs all of them."""
+"""Debian's packages that the tests need, installed where they are missing: python3 tests/front/debian.py brings all."""
 
 import os
 import shutil
 import subprocess
+from pathlib import Path
 
-# Each package by the program that it brings.
-PACKAGES = {"soffice": "libreoffice-calc", "chromium": "chromium", "pdftotext": "poppler-utils"}
+# Each package by the program that it brings, or by the library of Python.
+PACKAGES = {
+    "soffice": "libreoffice-calc", "chromium": "chromium", "pdftotext": "poppler-utils",
+    "xlsxwriter": "python3-xlsxwriter",
+}  # fmt: skip
+LIBRARIES = Path("/usr/lib/python3/dist-packages")
 
 
-def install(*programs):
-    missing = [PACKAGES[program] for program in programs if not shutil.which(program)]
+def is_there(name):
+    return shutil.which(name) or (LIBRARIES / name).is_dir()
+
+
+def install(*names):
+    missing = [PACKAGES[name] for name in names if not is_there(name)]
     if not missing:
         return
     print(f"installing {' '.join(missing)}, once", flush=True)

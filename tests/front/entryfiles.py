@@ -25,11 +25,21 @@ SAME = (
      "Pulses,Prover Temperature (°F),METER TEMPERATURE [deg F]")),
     ("columns of its own", 'pulses = "Count"\nprover_temperature = "T1 (F)"\nignore = ["Time", "Run #"]\n',
      "Run #," + CSV.replace("pulses,prover_temperature", "Count,T1 (F)").replace("\n1", "\n7,1").replace(",6", ",6")),
+    ("a heading with words in brackets", 'prover_temperature = "T (inlet)"\n',
+     CSV.replace("prover_temperature", "T (inlet)").replace("63.5", "63.5 °F")),
+    ("units in cells too", 'prover_temperature = "T (F)"\n',
+     CSV.replace("prover_temperature", "T (F)").replace("63.5", "63.5 °F")),
     ("a column that some fill", "", CSV.replace("temperature\n", "temperature,prover_pressure\n")
      .replace("17743,63.0,64.5\n", "17743,63.0,64.5,80\n")),
 )  # fmt: skip
 # A name, what [runs] says, the file, and what is said of it.
 FAULTS = (
+    ("another unit where the heading is said", 'prover_temperature = "T (°C)"\n',
+     CSV.replace("prover_temperature", "T (°C)"),
+     "runs.csv: line 2: run 1, prover_temperature: 63.0 °C is in °C, and only °F is taken"),
+    ("a pressure in kPa", 'meter_pressure = "P (kPa)"\n',
+     CSV.replace("temperature\n", "temperature,P (kPa)\n").replace("64.5\n", "64.5,62\n", 1),
+     "runs.csv: line 2: run 1, meter_pressure: 62 kPa is not in psi"),
     ("a digit too many", "", CSV.replace("63.5", "63.55"),
      "runs.csv: line 4: run 3, prover_temperature: 63.55 has more digits than the unit, 0.1 °F"),
     ("another unit", "", CSV.replace("prover_temperature", "prover_temperature (°C)"),

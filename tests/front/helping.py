@@ -13,6 +13,9 @@ KEYS = {
     "read": {},
     "book": {},
     "rework": {},
+    "new": {},
+    "lines": {},
+    "verify": {},
 }
 WORDS = {
     "prove": (
@@ -23,8 +26,14 @@ WORDS = {
     "ticket": ("--worksheet OUT", "--html OUT", "[ticket]"),
     "live": ("[live]", "nan or inf", "bits"),
     "read": ("RECORD", "--hex BYTES"),
-    "book": ("request SHIPPER NUMBER", "withdraw SHIPPER NUMBER", "take", "empty", "load LAST L0 L1 L2 L3", "quit"),
-    "rework": ("--csv OUT", "--recursive", "--patience SECONDS", "--force", "Ctrl-C", "130"),
+    "new": ("KIND", "prove, draw, ticket, live", "OUT.toml", "--force"),
+    "lines": ("docs/LINES.md",),
+    "book": (
+        *("--keep FILE", "request SHIPPER NUMBER", "withdraw SHIPPER NUMBER", "take", "empty"),
+        *("load LAST L0 L1 L2 L3", "quit"),
+    ),
+    "verify": ("REPORT", "JOB.toml", "SHA-256", "--json"),
+    "rework": ("--reports DIR", "--csv OUT", "--recursive", "--patience SECONDS", "--force", "Ctrl-C", "130"),
 }
 
 
@@ -38,6 +47,7 @@ def test():
         tally.same(status, 0, f"{command} --help: status")
         for word in (*WORDS[command], "exit status: 0 accepted; 1 refused"):
             tally.holds(text, word, command)
+        tally.same("--json " in text, command != "lines", f"{command}: --json")
         if known:
             tally.holds(text, ", ".join(fields.HEADING), command)
         for key, field in known.items():

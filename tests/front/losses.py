@@ -7,7 +7,9 @@ import subprocess
 import tempfile
 from pathlib import Path
 
-from harness import LAUNCHER, ROOT, Tally, run
+from harness import LAUNCHER, ROOT, Tally, called, run
+
+from front import outputs
 
 EXAMPLES = ROOT / "examples"
 JOB = (EXAMPLES / "second-five.toml").read_bytes()
@@ -46,10 +48,10 @@ def onto_inputs(tally, place):
     for path in place.names("job.toml"):
         for option in OPTIONS:
             for more in ((), ("--force",)):
-                status, out, err = run("prove", place.job, option, path, *more)
+                status, out, err = called("prove", place.job, option, path, *more)
                 tally.same((status, out), (2, ""), f"{option} onto the job as {path}")
                 tally.same(err, f"{path}: {option}: is read by this command: expected another file\n", f"{path}")
-    status, _, _ = run("rework", place.folder, "--csv", place.job, "--force")
+    status, _, _ = called("rework", place.folder, "--csv", place.job, "--force")
     tally.same(status, 2, "rework onto a job")
     given = place.job.open("rb")
     words = [str(LAUNCHER), "prove", "-", "--worksheet", str(place.job), "--force"]
@@ -59,11 +61,11 @@ def onto_inputs(tally, place):
 
 def onto_each_other(tally, place):
     for path in place.names("out"):
-        status, _, err = run("prove", place.job, "--plot", place.folder / "out", "--worksheet", path)
+        status, _, err = called("prove", place.job, "--plot", place.folder / "out", "--worksheet", path)
         tally.same(status, 2, f"two outputs of one name, {path}")
         tally.holds(err, "--plot: is written by --worksheet too: expected a file of its own", str(path))
     tally.check(not (place.folder / "out").exists(), "one of two outputs was written")
-    tally.same(run("prove", place.job, "--plot", "-", "--record", "-")[0], 2, "both on standard output")
+    tally.same(called("prove", place.job, "--plot", "-", "--record", "-")[0], 2, "both on standard output")
     with open(place.folder / "page", "wb") as page:
         words = [str(LAUNCHER), "prove", str(place.job), "--plot", str(place.folder / "page"), "--force"]
         done = subprocess.run(words, stdout=page, stderr=subprocess.PIPE, text=True)
@@ -76,18 +78,23 @@ def onto_old(tally, place):
     old.write_text(OLD)
     old.chmod(0o640)
     link.symlink_to(old)
-    status, out, err = run("prove", place.job, "--record", old)
+    status, out, err = called("prove", place.job, "--record", old)
     told = f"{old}: --record: is there already: --force writes over it\n"
     tally.same((status, out, err), (2, "", told), "an output that is there")
     tally.same(old.read_text(), OLD, "an output that is there")
-    tally.same(run("prove", place.job, "--record", link, "--force")[0], 0, "--force")
+    tally.same(called("prove", place.job, "--record", link, "--force")[0], 0, "--force")
     tally.same((old.read_bytes(), link.is_symlink()), (RECORD, True), "--force through a link")
     tally.same(old.stat().st_mode & 0o777, 0o640, "rights of an output that was there")
-    status, _, err = run("prove", place.job, "--record", place.inner, "--force")
+    status, _, err = called("prove", place.job, "--record", place.inner, "--force")
     tally.same((status, err), (2, f"{place.inner}: --record: is a folder: expected a file\n"), "a folder")
-    status, _, _ = run("prove", place.job, "--record", "/dev/null", "--plot", "/dev/null")
-    tally.same(status, 0, "/dev/null needs no force")
-    tally.check(not os.path.isfile("/dev/null"), "/dev/null has become a file")
+    pipe = place.folder / "pipe"
+    os.mkfifo(pipe)
+    with subprocess.Popen(["cat", pipe], stdout=subprocess.PIPE) as reader:
+        tally.same(called("prove", place.job, "--record", pipe)[0], 0, "a pipe needs no force")
+        tally.check(pipe.is_fifo(), "a pipe has become a file")
+        if not pipe.is_fifo():
+            reader.kill()
+        tally.same(reader.stdout.read(), RECORD, "what goes through a pipe")
 
 
 def refused(tally, place):
@@ -95,17 +102,17 @@ def refused(tally, place):
         old = place.folder / "old"
         old.write_text(OLD)
         job = EXAMPLES / "refusals" / name
-        status, _, err = run("prove", job, "--record", old, "--force")
+        status, _, err = called("prove", job, "--record", old, "--force")
         tally.same((status, old.read_text()), (1, OLD), f"{name}: the record that was there")
         told = f"{old}: not written: the record there is of an earlier job"
         tally.same(err.splitlines()[-1], told, f"{name}: words")
         old.unlink()
-        status, _, err = run("prove", job, "--record", old)
+        status, _, err = called("prove", job, "--record", old)
         tally.same((status, old.exists(), "earlier" in err), (1, False, False), f"{name}: no record there")
 
 
-def small_files():
-    resource.setrlimit(resource.RLIMIT_FSIZE, (1000, 1000))
+def small_files(most=1000):
+    resource.setrlimit(resource.RLIMIT_FSIZE, (most, most))
     signal.signal(signal.SIGXFSZ, signal.SIG_IGN)
 
 
@@ -121,8 +128,6 @@ def cut_short(tally, place):
         tally.same((done.returncode, old.read_text()), (3, OLD), f"{command}: a file that does not fit")
         tally.same(done.stderr, f"{old}: cannot be written: File too large\n", f"{command}: a file that does not fit")
         tally.same(place.parts, [], f"{command}: what is left behind")
-    done = run("prove", place.job, "--plot", "/dev/full")
-    tally.same((done[0], done[2]), (3, "/dev/full: cannot be written: No space left on device\n"), "a full device")
 
 
 def without_kit(tally, place):
@@ -147,9 +152,40 @@ def standard(tally, place):
     tally.check(done.returncode == 0 and b"1.0002" in done.stdout, f"a record from standard input: {done.stderr!r}")
 
 
+def streams(tally, place):
+    """Standard streams that are full or closed, and a command line that would speak to the terminal."""
+    job = f"{LAUNCHER} prove {place.job}"
+    for command, expected, words in (
+        (f"{job} > /dev/full", 3, "output: cannot be written: No space left on device\n"),
+        (f"{job} --record - > /dev/full", 3, "standard output: cannot be written: No space left on device\n"),
+        (f"{LAUNCHER} --version > /dev/full", 3, "output: cannot be written: No space left on device\n"),
+        (f"{job} --record - >&-", 3, "standard output: cannot be written: it is closed\n"),
+        (f"{LAUNCHER} prove - <&-", 2, "standard input: is closed: expected a file there\n"),
+        (f"{LAUNCHER} read - <&-", 2, "standard input: is closed: expected a file there\n"),
+    ):
+        done = subprocess.run(command, shell=True, capture_output=True, text=True)
+        tally.same((done.returncode, done.stderr), (expected, words), command)
+    status, _, err = run("prove", place.job, "b\x1b[2J" + "b" * 5000)
+    tally.check(status == 2 and "\x1b" not in err and len(err) < 2000, f"a wild command line: {err[-200:]!r}")
+
+
+def meanwhile(tally, place):
+    """A file that comes into being while an output is written is left as it is."""
+    path = place.folder / "out"
+    try:
+        with outputs.opened(str(path)) as file:
+            file.write(b"mine")
+            path.write_text(OLD)
+        tally.check(False, "a file that came meanwhile was written over")
+    except outputs.NotWritten as told:
+        tally.same(str(told), f"{path}: cannot be written: a file has come there meanwhile", "words")
+    tally.same((path.read_text(), place.parts), (OLD, []), "a file that came meanwhile")
+
+
 def test():
     tally = Tally("nothing lost")
-    for part in (onto_inputs, onto_each_other, onto_old, refused, cut_short, without_kit, standard):
+    parts = (onto_inputs, onto_each_other, onto_old, refused, cut_short, without_kit, standard, streams, meanwhile)
+    for part in parts:
         with tempfile.TemporaryDirectory() as folder:
             part(tally, Place(folder))
     return tally

@@ -15,13 +15,16 @@ from pathlib import Path
 from harness import LAUNCHER, ROOT, Tally, called
 from reworks import rows_of
 
-from front import crew, figures, results
+from front import crew, figures, finding, results
+from front.extras import Extras
+from front.program import Program
 
 EXAMPLES = ROOT / "examples"
 GOOD = (EXAMPLES / "figure-5.toml").read_text()
 WILD = "a\x1b[2J\udcff\n.toml"
 HANGS = GOOD[: GOOD.index("[[run]]")] + '[runs]\nfile = "pipe"\n'
 OLD = "of an earlier day"
+NOBODY = 65534
 
 
 def rework(folder, *words):
@@ -69,20 +72,56 @@ def obstacles(tally, folder):
 def second_stop(tally, folder):
     """Ctrl-C while a file hangs: the first waits for it, the second ends at once, and the old results are there."""
     os.mkfifo(folder / "pipe")
+    for end in (signal.SIGINT, signal.SIGTERM):
+        stopped_by(tally, folder, end)
+
+
+def stopped_by(tally, folder, end):
     (folder / "hangs.toml").write_text(HANGS)
     (folder / "out.csv").write_text(OLD)
     command = [str(LAUNCHER), "rework", str(folder), "--csv", str(folder / "out.csv"), "--force", "--patience", "300"]
     process = subprocess.Popen(command, stdout=subprocess.PIPE, stderr=subprocess.PIPE, text=True)
     # The pipe is opened for reading once the file is in hand.
     pipe = os.open(folder / "pipe", os.O_WRONLY)
-    process.send_signal(signal.SIGINT)
+    process.send_signal(end)
     time.sleep(0.5)
-    tally.same(process.poll(), None, "after one Ctrl-C the job in hand is waited for")
-    process.send_signal(signal.SIGINT)
+    tally.same(process.poll(), None, f"after one {end.name} the job in hand is waited for")
+    process.send_signal(end)
     _, err = process.communicate(timeout=20)
     os.close(pipe)
     tally.same((process.returncode, err), (130, ""), "after the second")
     tally.same(((folder / "out.csv").read_text(), list(folder.glob(".*.part"))), (OLD, []), "the old results")
+
+
+def unreadable(tally, folder):
+    """Files and folders of somebody else."""
+    inner, locked = folder / "inner", folder / "locked.toml"
+    inner.mkdir()
+    shutil.copy(EXAMPLES / "ticket.toml", locked)
+    shutil.copy(EXAMPLES / "ticket.toml", folder / "a.toml")
+    folder.chmod(0o755)
+    for place in (inner, locked):
+        place.chmod(0)
+    with Program() as program, as_nobody():
+        found = finding.find([str(folder)], True)
+        row = results.worked(str(locked), program, Extras())
+    why = {str(inner): "the folder cannot be read: Permission denied"}
+    names = ["a.toml", "inner", "locked.toml"]
+    tally.same(([Path(path).name for path in found.paths], found.skipped), (names, why), "an unreadable folder")
+    tally.same((row["outcome"], row["words"]), ("bad file", "cannot be read: Permission denied"), "an unreadable file")
+
+
+@contextlib.contextmanager
+def as_nobody():
+    """Root may read everything."""
+    root = os.geteuid() == 0
+    if root:
+        os.seteuid(NOBODY)
+    try:
+        yield
+    finally:
+        if root:
+            os.seteuid(0)
 
 
 def onto_runs(tally, folder):
@@ -113,18 +152,45 @@ def unexpected(tally, folder):
     tally.holds(Path(err.split("more in ")[-1].strip()).read_text(), "in broken", "its trace")
     Path(err.split("more in ")[-1].strip()).unlink()
     kept, results.worked = results.worked, broken
-    streams, out = (sys.stdin, sys.stdout), io.StringIO()
+    streams, out, before = (sys.stdin, sys.stdout), io.StringIO(), signal.getsignal(signal.SIGTERM)
     try:
         sys.stdin, sys.stdout = io.StringIO('"a.toml"\n"b.toml"\n'), out
         with contextlib.redirect_stderr(io.StringIO()):
             crew.work()
     finally:
         (sys.stdin, sys.stdout), results.worked = streams, kept
+        signal.signal(signal.SIGTERM, before)
     _, *rows = [json.loads(line) for line in out.getvalue().splitlines()]
     tally.same([(row["outcome"], row["unexpected"]) for row in rows], [("skipped", True)] * 2, "in a worker")
     for row in rows:
         tally.holds(row["words"], "unexpected KeyError: 'no such thing'; more in ", "in a worker")
         Path(row["words"].split("more in ")[-1]).unlink()
+
+
+def reader_gone(tally, folder):
+    """Lines that nobody reads any more are no reason to lose the results."""
+    for number in range(60):
+        shutil.copy(EXAMPLES / "refusals" / "ticket-11-readings-exchanged.toml", folder / f"{number}.toml")
+    for more in ((), ("--json",)):
+        command = [str(LAUNCHER), "rework", str(folder), "--csv", str(folder / "out.csv"), "--force", *more]
+        process = subprocess.Popen(command, stdout=subprocess.PIPE, stderr=subprocess.DEVNULL)
+        process.stdout.readline()
+        process.stdout.close()
+        tally.same(process.wait(60), 1, f"rework {more} whose lines nobody reads")
+        tally.same(len(rows_of(folder / "out.csv")), 60, f"rework {more} whose lines nobody reads")
+        (folder / "out.csv").unlink()
+
+
+def tidied(tally, folder):
+    """A worker that is ended comes to its own end, by which what it has half written is gone."""
+    os.mkfifo(folder / "pipe")
+    (folder / "hangs.toml").write_text(HANGS)
+    worker = crew.Worker(Extras())
+    worker.give(str(folder / "hangs.toml"))
+    pipe = os.open(folder / "pipe", os.O_WRONLY)
+    worker.end()
+    os.close(pipe)
+    tally.same(worker.process.wait(20), 1, "a worker that is ended")
 
 
 def lost_worker(tally, folder):
@@ -145,7 +211,7 @@ def lost_worker(tally, folder):
 
 def test():
     tally = Tally("obstacles")
-    for part in (obstacles, second_stop, onto_runs, unexpected, lost_worker):
+    for part in (obstacles, second_stop, unreadable, onto_runs, unexpected, reader_gone, tidied, lost_worker):
         with tempfile.TemporaryDirectory() as folder:
             part(tally, Path(folder))
     return tally

@@ -1,6 +1,8 @@
 """What commands write besides their page: the record, the worksheet, the plot, the page for print; on refusal 9 no
 record, on others the page for print alone."""
 
+import os
+import shutil
 import subprocess
 import tempfile
 from pathlib import Path
@@ -18,6 +20,21 @@ def outputs(folder):
 def prove(example, places):
     words = [word for name, place in places.items() for word in (f"--{name}", place)]
     return run("prove", EXAMPLES / example, *words)
+
+
+def wild_names(tally):
+    """A file's name that is no text, or has control characters, is shown as one in everything that is made of it."""
+    with tempfile.TemporaryDirectory() as folder:
+        for number, name in enumerate((b"\xff\xfe.toml", b"a\x1b[2J\nb.toml", b"=cmd.toml", b"<b>&amp;.toml")):
+            job = os.path.join(os.fsencode(folder), name)
+            shutil.copy(os.fsencode(EXAMPLES / "second-five.toml"), job)
+            ends = ("--html", "html"), ("--worksheet", "csv"), ("--worksheet", "xlsx"), ("--plot", "svg")
+            for option, end in ends:
+                out = Path(folder) / f"{number}.{end}"
+                status, shown, err = run("prove", os.fsdecode(job), option, out)
+                tally.same((status, err), (0, ""), f"{name} {option} {end}")
+                tally.check("\x1b" not in shown and "\x1b".encode() not in out.read_bytes()[:2], f"{name}: {end}")
+                tally.same(run("verify", out, os.fsdecode(job))[0], 0, f"{name}: verify {end}")
 
 
 def endings(tally):
@@ -78,6 +95,7 @@ def test():
         done = subprocess.run([link, "ticket", marked.name], cwd=folder, capture_output=True, text=True)
         tally.same((done.returncode, done.stderr), (0, ""), "through a link, from a folder of its own")
     endings(tally)
+    wild_names(tally)
     status, _, err = run("prove", EXAMPLES / "second-five.toml", "--plot", "/nowhere/plot.svg")
     tally.same((status, err), (3, "/nowhere/plot.svg: cannot be written: No such file or directory\n"), "no such place")
     return tally

@@ -42,11 +42,12 @@ def drawn(tally, name, worked):
     tally.check(not any(shown(factors[n - 1], 4) in off for n in accepted), f"{name}: an accepted run is off the scale")
     banded(tally, name, worked, tree, places, off)
     texts = [text.text for text in tree.iter(f"{SVG}text")]
+    tally.holds(tree.find(f"{SVG}desc").text, f"{job.digest}, worked by Endakuro", f"{name}: origin")
     refused = "NOT ACCEPTED, refused 9: no qualifying group; best five: runs"
     tally.holds(texts[1], refused if worked.refusal else "accepted, meter factor", name)
     for wanted in ("Run", "Run factor", f"limit, {shown(job.limit, 2)} %"):
         tally.check(wanted in texts, f"{name}: no label {wanted!r}")
-    name_drawn = job.heading.get("title", job.path)[:66]
+    name_drawn = job.heading.get("title", "Meter proving")[:66]
     tally.check(texts[0].startswith(name_drawn) and len(texts[0]) <= 70, f"{name}: title {texts[0]!r}")
     factor = [f"meter factor {shown(outcome.factor, 4)}"] if outcome else []
     tally.same([text for text in texts if text.startswith("meter factor")], factor, name)

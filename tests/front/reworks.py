@@ -35,7 +35,7 @@ def rows_of(path):
 
 def mixed(tally, folder):
     """Jobs of every kind, refused ones and a bad file among them."""
-    for path in [*EXAMPLES.glob("*.toml"), *(EXAMPLES / "refusals").glob("*.toml")]:
+    for path in [*EXAMPLES.glob("*.toml"), *EXAMPLES.glob("*.csv"), *(EXAMPLES / "refusals").glob("*.toml")]:
         shutil.copy(path, folder)
     (folder / "bad.toml").write_text("run = 3\n")
     (folder / "=cmd.toml").write_text("run = 3\n")
@@ -52,7 +52,9 @@ def mixed(tally, folder):
             found = (row["job"], row["outcome"], int(row["refusal"]))
             tally.same(found, (parts[0], "refused", int(parts[1])), row["file"])
             tally.holds(out, f"{folder / row['file']}: {row['words']}\n", "a line a refusal")
-        tally.same(row["SHA-256"], sha256(path.read_bytes()).hexdigest(), f"{path.name}: digest")
+        runs = path.with_suffix(".csv")
+        octets = path.read_bytes() + (runs.read_bytes() if runs.exists() else b"")
+        tally.same(row["SHA-256"], sha256(octets).hexdigest(), f"{path.name}: digest")
         tally.same(row["version"], version.NAME, f"{path.name}: version")
     counts = {kind: sum(row["outcome"] == kind for row in rows) for kind in ("accepted", "refused", "bad file")}
     told = ", ".join(f"{count} {kind}" for kind, count in counts.items())

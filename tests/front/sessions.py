@@ -33,6 +33,23 @@ BAD = (
 )
 
 
+def path_faults(tally):
+    """All lines of a file that are no steps, at once; a byte order mark; a dash."""
+    with tempfile.TemporaryDirectory() as folder:
+        path = Path(folder) / "session.txt"
+        path.write_text("take 1\nrequest 0 1\n# ask\nask\nquit\nask\n")
+        status, out, err = called("book", path)
+        told = f"{path}: line 1: expected: take\n{path}: line 4: ask: expected one of "
+        tally.check(status == 2 and not out and err.startswith(told) and "line 6" not in err, f"all at once: {err!r}")
+        path.write_bytes(b"\xef\xbb\xbfrequest 0 1\r\ntake\r\n")
+        status, out, err = called("book", path)
+        tally.same((status, err), (0, ""), "a file as a Windows editor writes it")
+        tally.holds(out, "request 1 of shipper 0 is taken", "a file as a Windows editor writes it")
+    for words in (["book"], ["book", "-"]):
+        done = subprocess.run([LAUNCHER, *words], input=b"\xef\xbb\xbfrequest 0 1\n", capture_output=True)
+        tally.same((done.returncode, done.stderr), (0, b""), f"{words} with a byte order mark")
+
+
 def test():
     tally = Tally("book sessions")
     status, out, err = run("book", given=NINE + FIVE + "request 2 21\n")
@@ -51,11 +68,15 @@ def test():
         for line, words in BAD:
             path.write_text(f"request 0 1\n{line}\ntake\n")
             status, out, err = called("book", path)
-            tally.same((status, err), (2, f"{path}: line 2: {words}\n"), line)
+            # A file is checked before its first step.
+            tally.same((status, out, err), (2, "", f"{path}: line 2: {words}\n"), line)
+            status, out, err = run("book", given=f"request 0 1\n{line}\ntake\n")
+            tally.same((status, err), (2, f"standard input: line 2: {words}\n"), f"{line}, through a pipe")
             tally.check("is taken" not in out, f"{line}: the session went on")
     done = subprocess.run([LAUNCHER, "book"], input=b"request 0 1\n\xff\xfe\x1b[2J\n", capture_output=True, cwd="/")
     said = "standard input: line 2: \ufffd\ufffd?[2J: expected one of"
     tally.check(done.returncode == 2 and done.stderr.decode().startswith(said), f"wild bytes: {done.stderr!r}")
+    path_faults(tally)
     typed = "request 0 1\nrequest 0 1\nhello\nhelp\ntake\nquit\n"
     status, shown = at_terminal([str(LAUNCHER), "book"], typed)
     tally.same(status, 0, "status at the keyboard")

@@ -1,97 +1,98 @@
--- Laws of a book: what soundness tells of each shipper's line, and of commons used.
+-- What soundness tells of a book: its shape, each shipper's line, the commons, the last served; and that this is all of it.
 use mathlib.Core.Path.{_≡_, sym, ap, _∙_}
-use mathlib.Core.Bool.{Bool, true}
-use mathlib.Core.List.{List, []}
-use Prim.Native.Nat.{ℕ, zero, suc, _-_, _≤_, _<_}
+use mathlib.Core.Bool.{true}
+use Prim.Native.Nat.{ℕ, _-_, _≤_, _<_}
 use native.Mathlib.Omega.{arith}
-use borrow.Author.Tests.{leb-true, le-leb, ltb-true, lt-ltb}
-use lib.Dec.{leb, ltb}
-use lib.ListN.{drop, getD}
+use borrow.Author.Tests.{leb-true, le-leb, ltb-true, lt-ltb, eqb-true, eq-eqb}
+use lib.Dec.{leb, eqb}
+use lib.ListN.{length, getD}
 use lib.Seq.{getD-take}
-use Rattle.book.specs.Line.{waiting, areProper, areZero}
-use Rattle.book.specs.Figures.{shippers, reserve, ceiling, commons, lineAt, waitingOf, has, beyond, commonsUsed}
+use Rattle.octets.specs.Octets.{zeroBetween}
+use Rattle.octets.proofs.FirstToLast.{tests, empty, nowhere}
+use Rattle.book.specs.Line.{waiting, areProper}
+use Rattle.book.specs.Figures.{shippers, overShippers, places, reserve, ceiling, commons, lineAt, waitingOf, has, held, beyond, commonsUsed}
 use Rattle.book.specs.Sound.{isLineSound, isSoundAt, areLinesSound, isSound}
-use Rattle.book.specs.Calls.{hasAny, oldestOf}
 use Rattle.book.specs.declared.Book.{Book}
 use Rattle.book.specs.declared.Line.{Line}
 use Rattle.book.proofs.Bools.{both-first, both-second, both-true}
 use Rattle.book.proofs.Lines.{waiting-count}
-use Rattle.book.proofs.Shape.{Shaped}
 
--- a sound line: its count, its numbers, its unused places
-module _ (top : ℕ) (line : Line) (sound : isLineSound top line ≡ true) where
-  pub line-count : line .count ≤ top
-  unfolding isLineSound
-  line-count = leb-true _ _ (both-first (leb (line .count) top) _ sound)
+pub record SoundLine (top : ℕ) (line : Line) : Type 0 where
+  pub wide : length (line .numbers) ≡ 16
+  pub few : line .count ≤ top
+  pub proper : areProper (waiting line) ≡ true
+  pub unused : zeroBetween (line .numbers) (line .count) 16 ≡ true
 
-  pub line-proper : areProper (waiting line) ≡ true
-  unfolding isLineSound
-  line-proper = both-first (areProper (waiting line)) _ (both-second (leb (line .count) top) _ sound)
-
-  pub line-unused : areZero (drop (line .count) (line .numbers)) ≡ true
-  unfolding isLineSound
-  line-unused = both-second (areProper (waiting line)) _ (both-second (leb (line .count) top) _ sound)
-
-pub line-sound : (top : ℕ) (line : Line) → line .count ≤ top → areProper (waiting line) ≡ true → areZero (drop (line .count) (line .numbers)) ≡ true → isLineSound top line ≡ true
+line-is : (top : ℕ) (line : Line) → isLineSound top line ≡ true → SoundLine top line
 unfolding isLineSound
-line-sound top line few proper unused = both-true (le-leb _ _ few) (both-true proper unused)
+line-is top line sound =
+    let counted = both-second (eqb (length (line .numbers)) 16) _ sound in
+    let filled = both-second (leb (line .count) top) _ counted in
+    record {
+      wide = eqb-true _ _ (both-first (eqb (length (line .numbers)) 16) _ sound);
+      few = leb-true _ _ (both-first (leb (line .count) top) _ counted);
+      proper = both-first (areProper (waiting line)) _ filled;
+      unused = both-second (areProper (waiting line)) _ filled;
+    }
 
--- what holds of the four lines holds of each shipper's
-pub sound-at : (book : Book) → areLinesSound book ≡ true → (s : ℕ) → s < 4 → isSoundAt book s ≡ true
-unfolding areLinesSound
-sound-at book t zero h = both-first (isSoundAt book 0) _ t
-sound-at book t (suc zero) h = both-first (isSoundAt book 1) _ (both-second (isSoundAt book 0) _ t)
-sound-at book t (suc (suc zero)) h = both-first (isSoundAt book 2) _ (both-second (isSoundAt book 1) _ (both-second (isSoundAt book 0) _ t))
-sound-at book t (suc (suc (suc zero))) h = both-second (isSoundAt book 2) _ (both-second (isSoundAt book 1) _ (both-second (isSoundAt book 0) _ t))
-sound-at book t (suc (suc (suc (suc s)))) h = absurd (omega arith)
+line-sound : (top : ℕ) (line : Line) → SoundLine top line → isLineSound top line ≡ true
+unfolding isLineSound
+line-sound top line is = both-true (eq-eqb _ _ (is .wide)) (both-true (le-leb _ _ (is .few)) (both-true (is .proper) (is .unused)))
 
-pub sound-each : (book : Book) → ((s : ℕ) → s < 4 → isSoundAt book s ≡ true) → areLinesSound book ≡ true
-unfolding areLinesSound
-sound-each book each = both-true (each 0 (omega arith)) (both-true (each 1 (omega arith)) (both-true (each 2 (omega arith)) (each 3 (omega arith))))
+-- the line of each shipper
+abbrev pub SoundLines : Book → Type 0
+SoundLines book = (s : ℕ) → s < 4 → SoundLine (ceiling book s) (lineAt book s)
 
-module _ (book : Book) (shaped : Shaped book) (sound : areLinesSound book ≡ true) (s : ℕ) (known : s < 4) where
-  pub at-sound : isLineSound 8 (lineAt book s) ≡ true
-  unfolding isSoundAt ceiling
-  at-sound = sound-at book sound s known
+pub lines-are : (book : Book) → areLinesSound book ≡ true → SoundLines book
+unfolding areLinesSound isSoundAt shippers
+lines-are book sound s known = line-is _ _ (empty tests (isSoundAt book) 4 0 sound s (omega arith) (omega arith))
 
-  pub at-count : lineAt book s .count ≤ 8
-  at-count = line-count 8 (lineAt book s) at-sound
+pub lines-sound : (book : Book) → SoundLines book → areLinesSound book ≡ true
+unfolding areLinesSound isSoundAt shippers
+lines-sound book each = nowhere tests (isSoundAt book) 4 0 (λ s l h. line-sound _ _ (each s (omega arith)))
+
+pub record SoundBook (book : Book) : Type 0 where
+  pub four : length (book .lines) ≡ 4
+  pub lines : SoundLines book
+  pub used : commonsUsed book ≤ commons book
+  pub turn : book .last < 4
+
+pub sound-is : (book : Book) → isSound book ≡ true → SoundBook book
+unfolding isSound shippers
+sound-is book sound =
+    let shaped = both-second (eqb (length (book .lines)) 4) _ sound in
+    let lined = both-second (areLinesSound book) _ shaped in
+    record {
+      four = eqb-true _ _ (both-first (eqb (length (book .lines)) 4) _ sound);
+      lines = lines-are book (both-first (areLinesSound book) _ shaped);
+      used = leb-true _ _ (both-first (leb (commonsUsed book) (commons book)) _ lined);
+      turn = ltb-true _ _ (both-second (leb (commonsUsed book) (commons book)) _ lined);
+    }
+
+pub is-sound : (book : Book) → SoundBook book → isSound book ≡ true
+unfolding isSound shippers
+is-sound book is = both-true (eq-eqb _ _ (is .four)) (both-true (lines-sound book (is .lines)) (both-true (le-leb _ _ (is .used)) (lt-ltb _ _ (is .turn))))
+
+module _ (book : Book) (s : ℕ) (line : SoundLine (ceiling book s) (lineAt book s)) where
+  -- a shipper's count is what it has waiting
+  pub few-at : lineAt book s .count ≤ 8
+  unfolding ceiling
+  few-at = line .few
 
   pub has-count : has book s ≡ lineAt book s .count
   unfolding has waitingOf
-  has-count = let few = at-count in waiting-count (lineAt book s) (omega arith) (shaped .1 s known)
+  has-count = let few = few-at in waiting-count (lineAt book s) (omega arith) (line .wide)
 
   pub beyond-count : {r : ℕ} → r ≡ lineAt book s .count - 2 → r ≡ beyond book s
   unfolding beyond reserve
   beyond-count is = is ∙ ap (λ (n : ℕ). n - 2) (sym has-count)
 
--- a sound book: its lines, its commons, its last served
-module _ (book : Book) (sound : isSound book ≡ true) where
-  pub sound-lines : areLinesSound book ≡ true
-  unfolding isSound
-  sound-lines = both-first (areLinesSound book) _ sound
-
-  pub sound-commons : commonsUsed book ≤ commons book
-  unfolding isSound
-  sound-commons = leb-true _ _ (both-first (leb (commonsUsed book) (commons book)) _ (both-second (areLinesSound book) _ sound))
-
-  pub sound-last : book .last < 4
-  unfolding isSound shippers
-  sound-last = ltb-true _ _ (both-second (leb (commonsUsed book) (commons book)) _ (both-second (areLinesSound book) _ sound))
-
-pub sound-book : (book : Book) → areLinesSound book ≡ true → commonsUsed book ≤ commons book → book .last < 4 → isSound book ≡ true
-unfolding isSound shippers
-sound-book book lines few last = both-true lines (both-true (le-leb _ _ few) (lt-ltb _ _ last))
-
--- who has any, by the counts of the lines
-unfoldable pub anyIn : List Line → ℕ → Bool
-anyIn lines s = ltb 0 (getD lines s (record { numbers = []; count = 0 }) .count)
-
-pub any-counted : (book : Book) → Shaped book → areLinesSound book ≡ true → (s : ℕ) → s < 4 → anyIn (book .lines) s ≡ hasAny book s
-unfolding anyIn hasAny lineAt
-any-counted book shape sound s known = ap (ltb 0) (sym (has-count book shape sound s known))
-
 -- the oldest stands first in the line
-pub oldest-first : (book : Book) (s : ℕ) → 0 < lineAt book s .count → oldestOf book s ≡ getD (lineAt book s .numbers) 0 0
-unfolding oldestOf waitingOf waiting
+pub oldest-first : (book : Book) (s : ℕ) → 0 < lineAt book s .count → getD (waitingOf book s) 0 0 ≡ getD (lineAt book s .numbers) 0 0
+unfolding waitingOf waiting
 oldest-first book s some = getD-take (lineAt book s .count) (lineAt book s .numbers) 0 0 some
+
+-- 'places 16': a sound book never holds more
+pub holds-its-places : (book : Book) → SoundBook book → held book ≤ places book
+unfolding held places commonsUsed overShippers beyond commons reserve
+holds-its-places book is = let used = is .used in omega arith

@@ -1,4 +1,4 @@
--- Tests joined: what a conjunction and a disjunction tell, and a value by cases of a test.
+-- Tests joined: what a conjunction and a disjunction tell.
 use mathlib.Core.Path.{_≡_, refl, sym, _∙_}
 use mathlib.Core.Bool.{Bool, true, false, _&&_, _||_, not, and-false, true≢false}
 use mathlib.Core.Logic.{_⊎_, inl, inr}
@@ -18,9 +18,6 @@ both-true {a} {b} p q = rw (p, q)
 pub decided : (t : Bool) → (t ≡ true) ⊎ (t ≡ false)
 decided true = inl refl
 decided false = inr refl
-
-pub not-of-true : {t : Bool} → t ≡ true → not t ≡ false
-not-of-true p = rw p
 
 pub not-of-false : {t : Bool} → t ≡ false → not t ≡ true
 not-of-false p = rw p

@@ -1,255 +1,248 @@
 -- What becomes of a waiting request: each call leaves it where it is or nearer, and each take brings its turn nearer.
 -- What is left to wait is four turns for each request before it and the turns until its shipper's.
 use mathlib.Core.Path.{_≡_, refl, sym, ap, _∙_, subst}
-use mathlib.Core.Logic.{_⊎_, inl, inr, ⊎-elim}
-use mathlib.Core.Bool.{Bool, true, false, _&&_, _||_, cond, true≢false, and-false, or-true}
+use mathlib.Core.Bool.{Bool, true, false, _&&_, cond, true≢false}
 use mathlib.Core.List.{List, [], _∷_, _++_}
-use Prim.Native.Nat.{ℕ, zero, suc, _+_, _*_, _≤_, _<_}
-use native.Mathlib.Decide.{ℕ-discrete}
+use mathlib.Core.Logic.{by-cases}
+use mathlib.Core.Option.{Option, none, some}
+use Prim.Native.Nat.{ℕ, zero, suc, _+_, _*_, _-_, _≤_, _<_, _%_}
+use native.Mathlib.Decide.{decLt}
+use native.Mathlib.Nat.{mod-add-mod, pos-of-ne-zero}
 use native.Mathlib.Omega.{arith}
-use borrow.Author.Tests.{eq-eqb, ne-eqb, lt-ltb, ltb-true}
-use lib.Dec.{eqb}
-use lib.ListN.{length, drop, getD}
-use Rattle.refusals.specs.Told.{Told, done, refused}
-use Rattle.book.specs.Line.{isIn, without}
-use Rattle.book.specs.Place.{placeOf}
-use Rattle.book.specs.Figures.{waitingOf, has, put}
-use Rattle.book.specs.Answers.{Handed}
-use Rattle.book.specs.Calls.{afterRequest, afterWithdrawal, takeOf, afterTake, following, hasAny, nextShipper, anyWaits, oldestOf}
-use Rattle.book.specs.Runs.{Call, request, withdrawal, take, after, run, takes, isDone, isHanded, isWithdrawn, isTaken, Fate, taken, withdrawn, waits, earlier, fateOf, NoLaterThan}
+use borrow.Author.Tests.{eq-eqb, lt-ltb}
+use lib.Dec.{ltb}
+use lib.ListN.{length, drop, getD, length-append, length-drop, List·getD-append}
+use lib.Seq.{getD-drop}
+use Rattle.refusals.specs.Told.{done}
+use Rattle.octets.specs.Lists.{isOneOf}
+use Rattle.octets.proofs.FirstToLast.{place-none}
+use Rattle.book.specs.Line.{without}
+use Rattle.book.specs.Figures.{shippers, waitingOf, has, put}
+use Rattle.book.specs.Calls.{entered, afterRequest, removed, afterWithdrawal, ofTurn, hasAny, nextTurn, oldestOf, handedOut, takeOf, afterTake}
+use Rattle.book.specs.Demand3.{Call, request, withdrawal, take, Answer, answerTo, after, afterAll, takes, grants, isWithdrawn, isTaken, Fate, taken, withdrawn, waits, earlier, fateOf, NoLaterThan}
 use Rattle.book.specs.declared.Book.{Book}
-use Rattle.book.proofs.Calls.{take-handed}
-use Rattle.book.proofs.Kept.{Kept, kept-after, WasServed, request-did, withdrawal-did, take-did}
-use Rattle.book.proofs.Lists.{in-place}
-use Rattle.book.proofs.Puts.{waiting-put, waiting-put-other}
-use Rattle.book.proofs.Turns.{following-known, next-known, turnsTo, turns-few, turns-served, nearer}
-use Rattle.book.proofs.Waiting.{in-append, place-append, in-without-other, place-without-other, Behind, oldest-or-behind}
+use Rattle.book.proofs.Books.{SoundBook, is-sound}
+use Rattle.book.proofs.Kept.{In, no-in, went-in, Out, no-out, went-out, request-did, in-turn, withdrawal-did, withdrawal-turn, take-did, turn-known, turn-first, turn-any, sound-after, put-line}
+use Rattle.book.proofs.Puts.{waiting-put}
+use Rattle.book.proofs.Waiting.{Stands, stands-without, oldest-without, among-at}
 
--- the request waits in another book too, no further back, and nobody was served
-record Still (s x : ℕ) (book left : Book) : Type 0 where
-  waiting : isIn x (waitingOf left s) ≡ true
-  place : placeOf x (waitingOf left s) ≤ placeOf x (waitingOf book s)
-  turn : left .last ≡ book .last
+-- the request stands behind at most k others, and its shipper's turn is the t-th
+pub record Waits (s x : ℕ) (book : Book) (k t : ℕ) : Type 0 where
+  pub stands : Stands x (waitingOf book s) k
+  pub mine : ofTurn book t ≡ s
+  pub one : 1 ≤ t
+  pub four : t ≤ 4
 
-module _ (s x : ℕ) (book : Book) (kept : Kept book) (here : isIn x (waitingOf book s) ≡ true) where
-  -- the same line, or one that is known
-  still-line : (left : Book) (xs : List ℕ) → waitingOf left s ≡ xs → isIn x xs ≡ true → placeOf x xs ≤ placeOf x (waitingOf book s) → left .last ≡ book .last → Still s x book left
-  still-line left xs line is near turn = record { waiting = ap (isIn x) line ∙ is; place = subst (λ (ys : List ℕ). placeOf x ys ≤ placeOf x (waitingOf book s)) (sym line) near; turn = turn }
+-- a shipper's turn is one of four
+pub begins : (s x : ℕ) (book : Book) (k : ℕ) → book .last < 4 → s < 4 → Stands x (waitingOf book s) k → (t : ℕ) × Waits s x book k t
+unfolding ofTurn shippers
+begins s x book k turn known stands = by (decLt (book .last) s)
+  where
+    by : Dec (book .last < s) → (t : ℕ) × Waits s x book k t
+    by (yes ahead) = (s - book .last, record { stands = stands; mine = omega arith; one = omega arith; four = omega arith })
+    by (no round) = (s + 4 - book .last, record { stands = stands; mine = omega arith; one = omega arith; four = omega arith })
 
-  still-same : (left : Book) → left ≡ book → Still s x book left
-  still-same left same = still-line left (waitingOf book s) (ap (λ (b : Book). waitingOf b s) same) here (omega arith) (ap (λ (b : Book). b .last) same)
+module _ (s x : ℕ) (book : Book) (sound : SoundBook book) (k : ℕ) (stands : Stands x (waitingOf book s) k) where
+  -- in its own shipper's line
+  here : {t : ℕ} → s ≡ t → Stands x (waitingOf book t) k
+  here same = subst (λ (t : ℕ). Stands x (waitingOf book t) k) same stands
 
-  still-put : (left : Book) (t : ℕ) (xs : List ℕ) → t < 4 → left ≡ put book t xs (book .last) → (s ≡ t → (isIn x xs ≡ true) × (placeOf x xs ≤ placeOf x (waitingOf book s))) → Still s x book left
-  unfolding put
-  still-put left t xs known is mine = by (ℕ-discrete s t)
-    where
-      turn : left .last ≡ book .last
-      turn = ap (λ (b : Book). b .last) is
-
-      by : Dec (s ≡ t) → Still s x book left
-      by (yes same) = still-line left xs (ap (λ (b : Book). waitingOf b s) is ∙ ap (waitingOf (put book t xs (book .last))) same ∙ waiting-put book t xs (book .last) (kept .shape) known) (mine same .0) (mine same .1) turn
-      by (no other) = still-line left (waitingOf book s) (ap (λ (b : Book). waitingOf b s) is ∙ waiting-put-other book t xs (book .last) s other) here (omega arith) turn
-
-  still-request : (t y : ℕ) → Still s x book (afterRequest book t y)
-  still-request t y =
-      ⊎-elim
-      (λ w.
-      still-put (afterRequest book t y) t (waitingOf book t ++ (y ∷ [])) (w .told .call .known) (w .left)
+  stands-in : {answer : Answer} {left : Book} → In book answer left → Stands x (waitingOf left s) k
+  unfolding entered
+  stands-in (no-in n at) = stands
+  stands-in (went-in t y told) =
+      put-line (λ (ys : List ℕ). Stands x ys k) book t (waitingOf book t ++ (y ∷ [])) (book .last) s sound (told .call .known)
       (λ same.
-      let line : waitingOf book t ≡ waitingOf book s = ap (waitingOf book) (sym same) in
-      let there = ap (isIn x) line ∙ here in
-      let place = place-append x (waitingOf book t) (y ∷ []) there ∙ ap (placeOf x) line in
-      (in-append x (waitingOf book t) (y ∷ []) ∙ ap (λ (t : Bool). t || isIn x (y ∷ [])) there, omega arith)))
-      (λ u. still-same (afterRequest book t y) (u .same)) (request-did book t y)
+      let h = here same in
+      record { place = h .place; near = h .near; within = simp length-append (omega arith); there = List·getD-append (waitingOf book t) (y ∷ []) 0 (h .place) (h .within) ∙ h .there })
+      (λ other. stands)
 
-  -- a withdrawal that is not of this request
-  still-withdrawal : (t y : ℕ) → isWithdrawn s x (withdrawal t y) book ≡ false → Still s x book (afterWithdrawal book t y)
-  unfolding isWithdrawn
-  still-withdrawal t y not =
-      ⊎-elim
-      (λ w.
-      still-put (afterWithdrawal book t y) t (without y (waitingOf book t)) (w .told .call .known) (w .left)
+  -- where another leaves
+  stands-out : {answer : Answer} {left : Book} → Out book answer left → grants s x answer ≡ false → Stands x (waitingOf left s) k
+  unfolding removed
+  stands-out (no-out n at) not = stands
+  stands-out (went-out t y last known here′ turn) not =
+      put-line (λ (ys : List ℕ). Stands x ys k) book t (without y (waitingOf book t)) last s sound known
       (λ same.
-      let line : waitingOf book t ≡ waitingOf book s = ap (waitingOf book) (sym same) in
-      let other : x ≡ y → ⊥ =
-      λ e. true≢false (sym (λ i. (eq-eqb s t same i && eq-eqb x y e i) && isDone (w .answer i)) ∙ not) in
-      let near = place-without-other x y (waitingOf book t) other in
-      let place = ap (placeOf x) line in
-      (in-without-other x y (waitingOf book t) other ∙ ap (isIn x) line ∙ here, omega arith)))
-      (λ u. still-same (afterWithdrawal book t y) (u .same)) (withdrawal-did book t y)
+      let h = here same in
+      let other : x ≡ y → ⊥ = λ e. true≢false (sym (λ i. eq-eqb s t same i && eq-eqb x y e i) ∙ not) in
+      let w = stands-without x y (waitingOf book t) (h .place) other (h .within) (h .there) in
+      record { place = w .place; near = omega arith; within = w .within; there = w .there })
+      (λ other. stands)
 
--- the turns that are left until the request is taken
-unfoldable pub left : ℕ → ℕ → Book → ℕ
-left s x book = 4 * placeOf x (waitingOf book s) + turnsTo (following (book .last)) s
+module _ (s x : ℕ) (book : Book) (sound : SoundBook book) (k t : ℕ) (w : Waits s x book k t) where
+  -- where the turn did not move on
+  waits-still : (left : Book) → left .last ≡ book .last → Stands x (waitingOf left s) k → Waits s x left k t
+  unfolding ofTurn
+  waits-still left same stands = record { stands = stands; mine = ap (λ (l : ℕ). (l + t) % shippers) same ∙ w .mine; one = w .one; four = w .four }
 
-left-still : (s x : ℕ) (book next : Book) → Still s x book next → left s x next ≤ left s x book
-unfolding left
-left-still s x book next still =
-    let place = still .place in
-    let turn = ap (λ (l : ℕ). turnsTo (following l) s) (still .turn) in
-    omega arith
-
--- while something waits, a take hands one out
-any-of : (any : ℕ → Bool) (s : ℕ) → s < 4 → any s ≡ true → (any 0 || (any 1 || (any 2 || any 3))) ≡ true
-any-of any zero h is = ap (λ (t : Bool). t || (any 1 || (any 2 || any 3))) is
-any-of any (suc zero) h is = ap (λ (t : Bool). any 0 || (t || (any 2 || any 3))) is ∙ or-true (any 0)
-any-of any (suc (suc zero)) h is = ap (λ (t : Bool). any 0 || (any 1 || (t || any 3))) is ∙ ap (λ (t : Bool). any 0 || t) (or-true (any 1)) ∙ or-true (any 0)
-any-of any (suc (suc (suc zero))) h is =
-    ap (λ (t : Bool). any 0 || (any 1 || (any 2 || t))) is ∙ ap (λ (t : Bool). any 0 || (any 1 || t)) (or-true (any 2)) ∙ ap (λ (t : Bool). any 0 || t) (or-true (any 1)) ∙ or-true (any 0)
-any-of any (suc (suc (suc (suc s)))) h is = absurd (omega arith)
-
-module _ (s x : ℕ) (known : s < 4) (book : Book) (kept : Kept book) (here : isIn x (waitingOf book s) ≡ true) where
-  some-waits : hasAny book s ≡ true
-  unfolding hasAny has
-  some-waits =
-      let place : placeOf x (waitingOf book s) < length (waitingOf book s) = ltb-true _ _ (sym (in-place x (waitingOf book s)) ∙ here) in
-      let some : 0 < length (waitingOf book s) = omega arith in
-      lt-ltb _ _ some
-
-  was-served : WasServed book
-  unfolding anyWaits
-  was-served =
-      ⊎-elim (λ w. w)
-      (λ u.
-      let z : _≡_ {A = Told Handed} (refused (u .number) (u .at)) (done _) = sym (u .refusal) ∙ take-handed book (kept .sound) (any-of (hasAny book) s known some-waits) in
-      absurd (refused-done z)) (take-did book)
-    where
-      refused-done : {n at : ℕ} {h : Handed} → _≡_ {A = Told Handed} (refused n at) (done h) → ⊥
-      refused-done p = let z : _≡_ {A = ℕ} 0 1 = cc in omega arith
-
-  -- a take hands this one out, or it waits still with a turn less to go
+  -- a take has not handed this one out: it waits with fewer turns to go
   record Nearer : Type 0 where
-    not : isTaken s x take book ≡ false
-    waiting : isIn x (waitingOf (afterTake book) s) ≡ true
-    less : left s x (afterTake book) < left s x book
+    ahead : ℕ
+    turns : ℕ
+    still : Waits s x (afterTake book) ahead turns
+    less : 4 * ahead + turns < 4 * k + t
 
-  handed : isTaken s x take book ≡ (eqb s (nextShipper book) && eqb x (oldestOf book (nextShipper book)))
-  unfolding isTaken
-  handed = ap (isHanded s x) (was-served .answer)
+  any : hasAny book t ≡ true
+  unfolding hasAny has
+  any =
+      let stands = w .stands in
+      let some : 0 < length (waitingOf book s) = omega arith in
+      ap (λ (r : ℕ). ltb 0 (length (waitingOf book r))) (w .mine) ∙ lt-ltb _ _ some
 
-  turn : afterTake book .last ≡ nextShipper book
-  unfolding put
-  turn = ap (λ (b : Book). b .last) (was-served .left)
+  module _ (not : isTaken s x take book ≡ false) (j : ℕ) (is : nextTurn book ≡ some j) where
+    -- the shipper served, and its oldest
+    u : ℕ
+    u = ofTurn book j
 
-  -- its shipper's turn: it is the oldest, or the oldest before it goes
-  mine : s ≡ nextShipper book → (isTaken s x take book ≡ true) ⊎ Nearer
-  unfolding oldestOf left
-  mine same = ⊎-elim (λ e. inl (handed ∙ (λ i. eq-eqb s n same i && eq-eqb x (oldestOf book n) (e ∙ oldest) i))) (λ b. inr (behind b)) (oldest-or-behind x (waitingOf book s) here)
-    where
-      n : ℕ
-      n = nextShipper book
+    oldest : ℕ
+    oldest = getD (waitingOf book u) 0 0
 
-      oldest : getD (waitingOf book s) 0 0 ≡ oldestOf book (nextShipper book)
-      oldest = ap (λ (k : ℕ). getD (waitingOf book k) 0 0) same
+    handed : answerTo take book ≡ done (record { shipper = u; number = oldest })
+    unfolding answerTo takeOf handedOut oldestOf u oldest
+    handed = rw (is-sound book sound, is)
+
+    left : afterTake book ≡ removed book u oldest u
+    unfolding afterTake takeOf handedOut oldestOf u oldest
+    left = rw (is-sound book sound, is)
+
+    turned : afterTake book .last ≡ u
+    unfolding removed put
+    turned = ap (λ (b : Book). b .last) left
+
+    -- its shipper's turn comes later
+    later : j < t → Nearer
+    unfolding isTaken ofTurn shippers u
+    later h =
+        let all : book .last + j + (t - j) ≡ book .last + t = omega arith in
+        record {
+          ahead = k;
+          turns = t - j;
+          still =
+              record {
+                stands = stands-out s x book sound k (w .stands) (take-did book) not;
+                mine = ap (λ (l : ℕ). (l + (t - j)) % 4) turned ∙ mod-add-mod (book .last + j) 4 (t - j) ∙ ap (λ (n : ℕ). n % 4) all ∙ w .mine;
+                one = omega arith;
+                four = omega arith;
+              };
+          less = let first = turn-first book is .from in omega arith;
+        }
+
+    -- its shipper's turn it was, and the oldest before it went
+    module _ (h : j ≡ t) where
+      same : u ≡ s
+      unfolding u
+      same = ap (ofTurn book) h ∙ w .mine
+
+      known : s < 4
+      unfolding u
+      known = subst (λ (r : ℕ). r < 4) same (turn-known book j)
+
+      it : w .stands .place ≡ 0 → x ≡ oldest
+      unfolding oldest
+      it e = sym (w .stands .there) ∙ ap (λ (n : ℕ). getD (waitingOf book s) n 0) e ∙ ap (λ (r : ℕ). getD (waitingOf book r) 0 0) (sym same)
+
+      behind : 0 < w .stands .place
+      unfolding isTaken
+      behind = pos-of-ne-zero (λ e. true≢false (sym (ap (grants s x) handed ∙ (λ i. eq-eqb s u (sym same) i && eq-eqb x oldest (it e) i)) ∙ not))
 
       line : waitingOf (afterTake book) s ≡ drop 1 (waitingOf book s)
+      unfolding removed oldest u
       line =
-          ap (λ (b : Book). waitingOf b s) (was-served .left) ∙ ap (waitingOf (put book (nextShipper book) (drop 1 (waitingOf book (nextShipper book))) (nextShipper book))) same
-          ∙ waiting-put book (nextShipper book) (drop 1 (waitingOf book (nextShipper book))) (nextShipper book) (kept .shape) (next-known book) ∙ ap (λ (k : ℕ). drop 1 (waitingOf book k)) (sym same)
+          ap (λ (b : Book). waitingOf b s) left ∙ ap (waitingOf (removed book u oldest u)) (sym same)
+          ∙ waiting-put book u (without oldest (waitingOf book u)) u (sound .four) (turn-known book j)
+          ∙ oldest-without (waitingOf book u) (turn-any book j is) ∙ ap (λ (r : ℕ). drop 1 (waitingOf book r)) same
 
-      behind : Behind x (waitingOf book s) → Nearer
-      behind b =
-          let place = ap (placeOf x) line in
-          let last = ap (λ (l : ℕ). turnsTo (following l) s) (turn ∙ sym same) ∙ turns-served s known in
-          let near = b .nearer in
+      nearer-line : Stands x (drop 1 (waitingOf book s)) (k - 1)
+      nearer-line =
+          let st = w .stands in
+          let p = st .place in
+          let some = behind in
+          let at : 1 + (p - 1) ≡ p = omega arith in
+          record { place = p - 1; near = omega arith; within = simp length-drop (omega arith); there = getD-drop 1 (waitingOf book s) (p - 1) 0 ∙ ap (λ (n : ℕ). getD (waitingOf book s) n 0) at ∙ st .there }
+
+      now : Nearer
+      unfolding ofTurn shippers
+      now =
+          let st = w .stands in
+          let some = behind in
+          let low = known in
+          let back : (s + 4) % 4 ≡ s = omega arith in
           record {
-            not = handed ∙ ap (λ (t : Bool). eqb s (nextShipper book) && t) (ne-eqb x (oldestOf book (nextShipper book)) (λ e. b .other (e ∙ sym oldest))) ∙ and-false (eqb s (nextShipper book));
-            waiting = ap (isIn x) line ∙ b .still;
-            less = omega arith;
+            ahead = k - 1;
+            turns = 4;
+            still =
+                record {
+                  stands = subst (λ (ys : List ℕ). Stands x ys (k - 1)) (sym line) nearer-line;
+                  mine = ap (λ (l : ℕ). (l + 4) % 4) (turned ∙ same) ∙ back;
+                  one = omega arith;
+                  four = omega arith;
+                };
+            less = let one = w .one in omega arith;
           }
 
-  -- another's turn: its shipper's comes nearer
-  others : (s ≡ nextShipper book → ⊥) → Nearer
-  unfolding left nextShipper
-  others other =
-      let line : waitingOf (afterTake book) s ≡ waitingOf book s = ap (λ (b : Book). waitingOf b s) (was-served .left) ∙ waiting-put-other book (nextShipper book) (drop 1 (waitingOf book (nextShipper book))) (nextShipper book) s other in
-      let place = ap (placeOf x) line in
-      let last = ap (λ (l : ℕ). turnsTo (following l) s) turn in
-      let close : turnsTo (following (nextShipper book)) s < turnsTo (following (book .last)) s =
-      ⊎-elim (λ e. absurd (other (sym e))) (λ l. l) (nearer (hasAny book) 3 (following (book .last)) s (following-known (book .last)) known (turns-few (following (book .last)) s) some-waits) in
-      record {
-        not = handed ∙ ap (λ (t : Bool). t && eqb x (oldestOf book (nextShipper book))) (ne-eqb s (nextShipper book) other);
-        waiting = ap (isIn x) line ∙ here;
-        less = omega arith;
-      }
-
-  taken-or-nearer : (isTaken s x take book ≡ true) ⊎ Nearer
-  taken-or-nearer = by (ℕ-discrete s (nextShipper book))
+  nearer : isTaken s x take book ≡ false → Nearer
+  unfolding nextTurn shippers
+  nearer not = by (nextTurn book) refl
     where
-      by : Dec (s ≡ nextShipper book) → (isTaken s x take book ≡ true) ⊎ Nearer
-      by (yes same) = mine same
-      by (no other) = inr (others other)
+      by : (next : Option ℕ) → nextTurn book ≡ next → Nearer
+      by none is = absurd (true≢false (sym any ∙ place-none (hasAny book) 4 1 is t (w .one) (let four = w .four in omega arith)))
+      by (some j) is =
+          by-cases (decLt j t) (later not j is)
+          (λ round. now not j is (let first = turn-first book is in let none : t < j → ⊥ = λ past. true≢false (sym any ∙ first .before t (w .one) past) in by-cases (decLt t j) (λ past. absurd (none past)) (λ same. omega arith)))
 
--- what holds of a fate holds a call earlier
-not-a-take : (m : ℕ) (call : Call) (calls : List Call) → takes (call ∷ calls) ≡ takes calls → (fate : Fate) → NoLaterThan m calls fate → NoLaterThan m (call ∷ calls) fate
-not-a-take m call calls same (taken n) h = h
-not-a-take m call calls same withdrawn h = h
-not-a-take m call calls same waits h = omega arith
+-- what a fate means: a take in time, a withdrawal, or too few takes and waiting still
+module _ (s x : ℕ) where
+  abbrev pub Comes : ℕ → List Call → Book → Fate → Type 0
+  Comes m calls book (taken n) = n ≤ m
+  Comes m calls book withdrawn = Unit {0}
+  Comes m calls book waits = (takes calls < m) × (isOneOf x (waitingOf (afterAll calls book) s) ≡ true)
 
-one-take-more : (m : ℕ) (calls : List Call) (fate : Fate) → NoLaterThan m calls fate → NoLaterThan (suc m) (take ∷ calls) (earlier take fate)
-unfolding takes
-one-take-more m calls (taken n) h = omega arith
-one-take-more m calls withdrawn h = h
-one-take-more m calls waits h = omega arith
+  -- what holds of a fate holds a call earlier
+  not-a-take : (m : ℕ) (call : Call) (calls : List Call) (book : Book) → takes (call ∷ calls) ≡ takes calls → (fate : Fate) → Comes m calls (after call book) fate → Comes m (call ∷ calls) book fate
+  unfolding afterAll
+  not-a-take m call calls book same (taken n) h = h
+  not-a-take m call calls book same withdrawn h = h
+  not-a-take m call calls book same waits h = (let less = h .0 in omega arith, h .1)
 
--- a waiting request is taken before its turns are up, unless it is withdrawn first
-pub bound : (s x : ℕ) → s < 4 → (calls : List Call) (book : Book) → Kept book → isIn x (waitingOf book s) ≡ true → (m : ℕ) → left s x book < m → NoLaterThan m calls (fateOf s x calls book)
-unfolding fateOf takes after isWithdrawn isTaken
-bound s x known [] book kept here m h = omega arith
-bound s x known (request t y ∷ calls) book kept here m h =
-    let still = still-request s x book kept here t y in
-    let less = left-still s x book (afterRequest book t y) still in
-    not-a-take m (request t y) calls refl (fateOf s x calls (afterRequest book t y)) (bound s x known calls (afterRequest book t y) (kept-after (request t y) book kept) (still .waiting) m (omega arith))
-bound s x known (withdrawal t y ∷ calls) book kept here m h =
-    by (isWithdrawn s x (withdrawal t y) book) refl
-    (λ not.
-    let still = still-withdrawal s x book kept here t y not in
-    let less = left-still s x book (afterWithdrawal book t y) still in
-    bound s x known calls (afterWithdrawal book t y) (kept-after (withdrawal t y) book kept) (still .waiting) m (omega arith))
-  where
-    by : (gone : Bool) → isWithdrawn s x (withdrawal t y) book ≡ gone → (isWithdrawn s x (withdrawal t y) book ≡ false → NoLaterThan m calls (fateOf s x calls (afterWithdrawal book t y)))
-        → NoLaterThan m (withdrawal t y ∷ calls) (cond gone withdrawn (fateOf s x calls (afterWithdrawal book t y)))
-    by true is rest = tt
-    by false is rest = not-a-take m (withdrawal t y) calls refl (fateOf s x calls (afterWithdrawal book t y)) (rest is)
-bound s x known (take ∷ calls) book kept here zero h = absurd (omega arith)
-bound s x known (take ∷ calls) book kept here (suc m) h =
-    by (isHanded s x (takeOf book)) refl (taken-or-nearer s x known book kept here)
-    (λ near. let less = near .less in bound s x known calls (afterTake book) (kept-after take book kept) (near .waiting) m (omega arith))
-  where
-    by : (gone : Bool) → isHanded s x (takeOf book) ≡ gone → (isTaken s x take book ≡ true) ⊎ Nearer s x known book kept here → (Nearer s x known book kept here → NoLaterThan m calls (fateOf s x calls (afterTake book)))
-        → NoLaterThan (suc m) (take ∷ calls) (cond gone (taken 1) (earlier take (fateOf s x calls (afterTake book))))
-    by true is or rest = omega arith
-    by false is or rest = one-take-more m calls (fateOf s x calls (afterTake book)) (⊎-elim (λ e. absurd (true≢false (sym e ∙ is))) rest or)
+  one-take-more : (m : ℕ) (calls : List Call) (book : Book) (fate : Fate) → Comes m calls (afterTake book) fate → Comes (suc m) (take ∷ calls) book (earlier take fate)
+  unfolding takes afterAll after
+  one-take-more m calls book (taken n) h = omega arith
+  one-take-more m calls book withdrawn h = h
+  one-take-more m calls book waits h = (let less = h .0 in omega arith, h .1)
 
--- a request that is neither taken nor withdrawn waits still
-never-waits : {n : ℕ} → taken n ≡ waits → ⊥
-never-waits p = let z : _≡_ {A = ℕ} 0 1 = cc in omega arith
+  -- a waiting request is taken before its turns are up, unless it is withdrawn first; and it waits still if neither
+  pub comes : (calls : List Call) (book : Book) (k t m : ℕ) → SoundBook book → Waits s x book k t → 4 * k + t ≤ m → Comes m calls book (fateOf s x calls book)
+  unfolding fateOf takes after afterAll isWithdrawn isTaken
+  comes [] book k t m sound w h = let st = w .stands in let one = w .one in (omega arith, among-at x (waitingOf book s) (st .place) (st .within) (st .there))
+  comes (request u y ∷ calls) book k t m sound w h =
+      let did = request-did book u y in
+      let still = waits-still s x book sound k t w (afterRequest book u y) (in-turn book did) (stands-in s x book sound k (w .stands) did) in
+      not-a-take m (request u y) calls book refl (fateOf s x calls (afterRequest book u y)) (comes calls (afterRequest book u y) k t m (sound-after (request u y) book sound) still h)
+  comes (withdrawal u y ∷ calls) book k t m sound w h =
+      by (isWithdrawn s x (withdrawal u y) book) refl
+      (λ not.
+      let still = waits-still s x book sound k t w (afterWithdrawal book u y) (withdrawal-turn book u y) (stands-out s x book sound k (w .stands) (withdrawal-did book u y) not) in
+      comes calls (afterWithdrawal book u y) k t m (sound-after (withdrawal u y) book sound) still h)
+    where
+      by : (gone : Bool) → isWithdrawn s x (withdrawal u y) book ≡ gone → (isWithdrawn s x (withdrawal u y) book ≡ false → Comes m calls (afterWithdrawal book u y) (fateOf s x calls (afterWithdrawal book u y)))
+          → Comes m (withdrawal u y ∷ calls) book (cond gone withdrawn (fateOf s x calls (afterWithdrawal book u y)))
+      by true is rest = tt
+      by false is rest = not-a-take m (withdrawal u y) calls book refl (fateOf s x calls (afterWithdrawal book u y)) (rest is)
+  comes (take ∷ calls) book k t zero sound w h = let one = w .one in absurd (omega arith)
+  comes (take ∷ calls) book k t (suc m) sound w h =
+      by (isTaken s x take book) refl
+      (λ not.
+      let n = nearer s x book sound k t w not in
+      let less = n .less in
+      comes calls (afterTake book) (n .ahead) (n .turns) m (sound-after take book sound) (n .still) (omega arith))
+    where
+      by : (gone : Bool) → isTaken s x take book ≡ gone → (isTaken s x take book ≡ false → Comes m calls (afterTake book) (fateOf s x calls (afterTake book)))
+          → Comes (suc m) (take ∷ calls) book (cond gone (taken 1) (earlier take (fateOf s x calls (afterTake book))))
+      by true is rest = omega arith
+      by false is rest = one-take-more m calls book (fateOf s x calls (afterTake book)) (rest is)
 
-withdrawn-waits : withdrawn ≡ waits → ⊥
-withdrawn-waits p = let z : _≡_ {A = ℕ} 0 1 = cc in omega arith
-
-earlier-waits : (fate : Fate) → earlier take fate ≡ waits → fate ≡ waits
-earlier-waits (taken n) p = absurd (never-waits p)
-earlier-waits withdrawn p = absurd (withdrawn-waits p)
-earlier-waits waits p = refl
-
-pub still-waiting : (s x : ℕ) → s < 4 → (calls : List Call) (book : Book) → Kept book → isIn x (waitingOf book s) ≡ true → fateOf s x calls book ≡ waits → isIn x (waitingOf (run calls book) s) ≡ true
-unfolding fateOf run after isWithdrawn isTaken
-still-waiting s x known [] book kept here is = here
-still-waiting s x known (request t y ∷ calls) book kept here is =
-    still-waiting s x known calls (afterRequest book t y) (kept-after (request t y) book kept) (still-request s x book kept here t y .waiting) is
-still-waiting s x known (withdrawal t y ∷ calls) book kept here is =
-    by (isWithdrawn s x (withdrawal t y) book) refl is
-    (λ not. still-waiting s x known calls (afterWithdrawal book t y) (kept-after (withdrawal t y) book kept) (still-withdrawal s x book kept here t y not .waiting))
-  where
-    by : (gone : Bool) → isWithdrawn s x (withdrawal t y) book ≡ gone → cond gone withdrawn (fateOf s x calls (afterWithdrawal book t y)) ≡ waits
-        → (isWithdrawn s x (withdrawal t y) book ≡ false → fateOf s x calls (afterWithdrawal book t y) ≡ waits → isIn x (waitingOf (run calls (afterWithdrawal book t y)) s) ≡ true) → isIn x (waitingOf (run calls (afterWithdrawal book t y)) s) ≡ true
-    by true told p rest = absurd (withdrawn-waits p)
-    by false told p rest = rest told p
-still-waiting s x known (take ∷ calls) book kept here is =
-    by (isHanded s x (takeOf book)) refl is (taken-or-nearer s x known book kept here) (λ near. still-waiting s x known calls (afterTake book) (kept-after take book kept) (near .waiting))
-  where
-    by : (gone : Bool) → isHanded s x (takeOf book) ≡ gone → cond gone (taken 1) (earlier take (fateOf s x calls (afterTake book))) ≡ waits → (isTaken s x take book ≡ true) ⊎ Nearer s x known book kept here
-        → (Nearer s x known book kept here → fateOf s x calls (afterTake book) ≡ waits → isIn x (waitingOf (run calls (afterTake book)) s) ≡ true) → isIn x (waitingOf (run calls (afterTake book)) s) ≡ true
-    by true told p or rest = absurd (never-waits p)
-    by false told p or rest = ⊎-elim (λ e. absurd (true≢false (sym e ∙ told))) (λ near. rest near (earlier-waits (fateOf s x calls (afterTake book)) p)) or
+  pub no-later : (m : ℕ) (calls : List Call) (book : Book) (fate : Fate) → Comes m calls book fate → NoLaterThan m calls fate
+  no-later m calls book (taken n) h = h
+  no-later m calls book withdrawn h = h
+  no-later m calls book waits h = h .0

@@ -1,187 +1,204 @@
--- What each call does, by cases of its answer, and that every call keeps a book sound.
+-- What each call does, by its answer, and that every call keeps a book sound.
 use mathlib.Core.Path.{_≡_, refl, sym, ap, _∙_, subst}
-use mathlib.Core.Logic.{_⊎_, inl, inr, ⊎-elim}
-use mathlib.Core.Bool.{Bool, true, _||_}
+use mathlib.Core.Logic.{⊎-elim}
+use mathlib.Core.Bool.{Bool, true, false, _||_}
 use mathlib.Core.List.{List, [], _∷_, _++_}
+use mathlib.Core.Option.{Option, none, some}
 use Prim.Native.Nat.{ℕ, zero, suc, _+_, _≤_, _<_}
+use native.Mathlib.Decide.{ℕ-discrete}
 use native.Mathlib.Omega.{arith}
-use borrow.Author.Tests.{ltb-true}
+use borrow.Author.Tests.{ltb-true, lt-ltb, le-ltb}
 use lib.Dec.{ltb}
-use lib.ListN.{length, drop, length-append, length-drop}
-use Rattle.refusals.specs.Told.{Told, done, refused}
-use Rattle.book.specs.Line.{places, waiting, lineOf, without, areProper, areZero}
-use Rattle.book.specs.Figures.{shippers, reserve, ceiling, commons, lineAt, waitingOf, has, beyond, commonsUsed, put, emptyBook}
+use lib.ListN.{length, getD, length-append}
+use Rattle.refusals.specs.Told.{done, refused, Fault, fine, fault, demand, unless, judged, leftBy}
+use Rattle.refusals.proofs.Laws.{done-one, refused-not-done}
+use Rattle.octets.specs.FirstToLast.{firstToLast, placeIf}
+use Rattle.octets.specs.Lists.{isOneOf}
+use Rattle.octets.specs.Octets.{isZeroAt, zeroBetween}
+use Rattle.octets.proofs.FirstToLast.{places as searched, nowhere, place-no, First, place-first, first-place}
+use Rattle.book.specs.Line.{waiting, lineOf, without, areProper}
+use Rattle.book.specs.Figures.{shippers, overShippers, places, reserve, ceiling, commons, lineAt, waitingOf, has, beyond, commonsUsed, put, emptyBook}
 use Rattle.book.specs.Sound.{isLineSound, isSoundAt, areLinesSound, isSound}
-use Rattle.book.specs.Calls.{requestOf, afterRequest, withdrawalOf, afterWithdrawal, takeOf, afterTake, hasRoom, hasAny, nextShipper, oldestOf}
-use Rattle.book.specs.Runs.{Call, request, withdrawal, take, after, run}
+use Rattle.book.specs.Answers.{Handed}
+use Rattle.book.specs.Calls.{requestFault, requestOf, entered, afterRequest, withdrawalFault, withdrawalOf, removed, afterWithdrawal, hasRoom, ofTurn, hasAny, nextTurn, oldestOf, handedOut, takeOf, afterTake}
+use Rattle.book.specs.Demand3.{Call, request, withdrawal, take, Answer, answerTo, after, afterAll}
 use Rattle.book.specs.declared.Book.{Book}
-use Rattle.book.proofs.Books.{at-count, has-count, line-proper, sound-at, sound-book, sound-commons, sound-last, sound-lines}
+use Rattle.book.proofs.Books.{SoundBook, has-count}
 use Rattle.book.proofs.Bools.{decided}
-use Rattle.book.proofs.Calls.{Accepted, accepted, Granted, granted, handed-out, changed, unchanged}
-use Rattle.book.proofs.Puts.{shaped-put, lines-put, commons-put, waiting-put}
-use Rattle.book.proofs.Shape.{Shaped}
-use Rattle.book.proofs.Turns.{next-known, next-any}
-use Rattle.book.proofs.Waiting.{proper-more, proper-without, proper-drop, length-without}
+use Rattle.book.proofs.Calls.{Accepted, accepted, granted}
+use Rattle.book.proofs.Puts.{sound-put, commons-put, waiting-put, waiting-put-other}
+use Rattle.book.proofs.Waiting.{among-at, proper-more, proper-without, length-without}
 
--- a sound book of the machine's shape
-pub record Kept (book : Book) : Type 0 where
-  pub sound : isSound book ≡ true
-  pub shape : Shaped book
+-- a request is refused, or waits
+pub data In (book : Book) : Answer → Book → Type 0 where
+  no-in : (n at : ℕ) → In book (refused n at) book
+  went-in : (s x : ℕ) → Accepted book s x → In book (done (record { shipper = s; number = x })) (entered book s x)
 
--- a refusal leaves the book as it was
-pub record Unchanged {A : Type 0} (answer : Told A) (left book : Book) : Type 0 where
-  pub number : ℕ
-  pub at : ℕ
-  pub refusal : answer ≡ refused number at
-  pub same : left ≡ book
+-- a withdrawal and a take are refused, or a request that waited has left
+pub data Out (book : Book) : Answer → Book → Type 0 where
+  no-out : (n at : ℕ) → Out book (refused n at) book
+  went-out : (s x last : ℕ) → s < 4 → isOneOf x (waitingOf book s) ≡ true → last < 4 → Out book (done (record { shipper = s; number = x })) (removed book s x last)
 
-pub record WentIn (book : Book) (s x : ℕ) : Type 0 where
-  pub answer : requestOf book s x ≡ done tt
-  pub told : Accepted book s x
-  pub left : afterRequest book s x ≡ put book s (waitingOf book s ++ (x ∷ [])) (book .last)
+pub request-did : (book : Book) (s x : ℕ) → In book (answerTo (request s x) book) (afterRequest book s x)
+unfolding answerTo afterRequest requestOf
+request-did book s x = by (requestFault book s x) (accepted book s x)
+  where
+    by : (f : Fault) → (f ≡ fine → Accepted book s x) → In book (judged f (record { shipper = s; number = x })) (leftBy (judged {A = Unit {0}} f tt) (λ (made : Unit). entered book s x) book)
+    by fine told = went-in s x (told refl)
+    by (fault n at) told = no-in n at
 
-pub record WentOut (book : Book) (s x : ℕ) : Type 0 where
-  pub answer : withdrawalOf book s x ≡ done tt
-  pub told : Granted book s x
-  pub left : afterWithdrawal book s x ≡ put book s (without x (waitingOf book s)) (book .last)
+pub withdrawal-did : (book : Book) (s x : ℕ) → Out book (answerTo (withdrawal s x) book) (afterWithdrawal book s x)
+unfolding answerTo afterWithdrawal withdrawalOf
+withdrawal-did book s x = by (withdrawalFault book s x) refl
+  where
+    by : (f : Fault) → withdrawalFault book s x ≡ f
+        → Out book (judged f (record { shipper = s; number = x })) (leftBy (judged {A = Unit {0}} f tt) (λ (made : Unit). removed book s x (book .last)) book)
+    by fine is = let told = granted book s x is in went-out s x (book .last) (told .call .known) (told .waits) (told .call .sound .turn)
+    by (fault n at) is = no-out n at
 
-pub record WasServed (book : Book) : Type 0 where
-  pub answer : takeOf book ≡ done (record { shipper = nextShipper book; number = oldestOf book (nextShipper book) })
-  pub sound : isSound book ≡ true
-  pub some : 0 < has book (nextShipper book)
-  pub left : afterTake book ≡ put book (nextShipper book) (drop 1 (waitingOf book (nextShipper book))) (nextShipper book)
+-- neither of the two moves the turn on
+pub in-turn : (book : Book) {answer : Answer} {left : Book} → In book answer left → left .last ≡ book .last
+unfolding entered put
+in-turn book (no-in n at) = refl
+in-turn book (went-in s x told) = refl
 
-answered : {A : Type 0} (t : Told A) → ((x : A) × (t ≡ done x)) ⊎ ((n : ℕ) × (at : ℕ) × (t ≡ refused n at))
-answered (done x) = inl (x, refl)
-answered (refused n at) = inr (n, at, refl)
+pub withdrawal-turn : (book : Book) (s x : ℕ) → afterWithdrawal book s x .last ≡ book .last
+unfolding afterWithdrawal withdrawalOf removed put
+withdrawal-turn book s x = by (withdrawalFault book s x)
+  where
+    by : (f : Fault) → leftBy (judged {A = Unit {0}} f tt) (λ (made : Unit). removed book s x (book .last)) book .last ≡ book .last
+    by fine = refl
+    by (fault n at) = refl
 
-pub request-did : (book : Book) (s x : ℕ) → WentIn book s x ⊎ Unchanged (requestOf book s x) (afterRequest book s x) book
-unfolding afterRequest
-request-did book s x =
-    ⊎-elim (λ w. inl (record { answer = w .1; told = accepted book s x (w .1); left = changed _ _ (w .1) }))
-    (λ w. inr (record { number = w .0; at = w .1; refusal = w .2; same = unchanged _ _ (w .2) })) (answered (requestOf book s x))
+-- the next turn: its shipper has any, and none before it
+pub turn-known : (book : Book) (turn : ℕ) → ofTurn book turn < 4
+unfolding ofTurn shippers
+turn-known book turn = omega arith
 
-pub withdrawal-did : (book : Book) (s x : ℕ) → WentOut book s x ⊎ Unchanged (withdrawalOf book s x) (afterWithdrawal book s x) book
-unfolding afterWithdrawal
-withdrawal-did book s x =
-    ⊎-elim (λ w. inl (record { answer = w .1; told = granted book s x (w .1); left = changed _ _ (w .1) }))
-    (λ w. inr (record { number = w .0; at = w .1; refusal = w .2; same = unchanged _ _ (w .2) })) (answered (withdrawalOf book s x))
+pub turn-first : (book : Book) {turn : ℕ} → nextTurn book ≡ some turn → First (hasAny book) 4 1 turn
+unfolding nextTurn shippers
+turn-first book is = place-first (hasAny book) 4 1 is
 
-pub take-did : (book : Book) → WasServed book ⊎ Unchanged (takeOf book) (afterTake book) book
-unfolding afterTake hasAny
-take-did book =
-    ⊎-elim
-    (λ w.
-    let h = handed-out book (w .1) in
-    inl
-    (record {
-      answer = w .1 ∙ ap done (h .it);
-      sound = h .sound;
-      some = ltb-true _ _ (next-any book (sound-last book (h .sound)) ∙ h .some);
-      left = changed _ _ (w .1);
-    }))
-    (λ w. inr (record { number = w .0; at = w .1; refusal = w .2; same = unchanged _ _ (w .2) })) (answered (takeOf book))
+pub turn-any : (book : Book) (turn : ℕ) → nextTurn book ≡ some turn → 0 < length (waitingOf book (ofTurn book turn))
+unfolding hasAny has
+turn-any book turn is = ltb-true _ _ (turn-first book is .passes)
 
--- a line put anew keeps a book sound where it is proper, within the ceiling, and the commons hold it
-pub kept-put : (book : Book) (s : ℕ) (xs : List ℕ) (last : ℕ) → Kept book → s < 4 → length xs ≤ ceiling book s → areProper xs ≡ true → commonsUsed (put book s xs last) ≤ commons book → last < 4 → Kept (put book s xs last)
-unfolding ceiling commons put
-kept-put book s xs last kept known few proper fits turn =
-    record {
-      sound = sound-book _ (lines-put book s xs last (kept .shape) known (sound-lines book (kept .sound)) few proper) fits turn;
-      shape = shaped-put book s xs last (kept .shape) known (omega arith);
-    }
+-- which turn is next, by the counts of the lines: nobody before it has any
+abbrev pub NoneBefore : Book → ℕ → Type 0
+NoneBefore book turn = (j : ℕ) → 1 ≤ j → j < turn → lineAt book (ofTurn book j) .count ≤ 0
 
-module _ (book : Book) (kept : Kept book) (s : ℕ) (known : s < 4) where
+module _ (book : Book) (sound : SoundBook book) where
+  any-count : (turn : ℕ) → hasAny book turn ≡ ltb 0 (lineAt book (ofTurn book turn) .count)
+  unfolding hasAny
+  any-count turn = ap (ltb 0) (has-count book (ofTurn book turn) (sound .lines (ofTurn book turn) (turn-known book turn)))
+
+  pub turn-is : (turn : ℕ) → 1 ≤ turn → turn ≤ 4 → 0 < lineAt book (ofTurn book turn) .count → NoneBefore book turn → nextTurn book ≡ some turn
+  unfolding nextTurn shippers
+  turn-is turn l h any nobody =
+      first-place (hasAny book) 4 1
+      (record { from = l; below = omega arith; passes = any-count turn ∙ lt-ltb _ _ any; before = λ j l h. any-count j ∙ le-ltb _ _ (nobody j l h) })
+
+  pub turn-none : NoneBefore book 5 → nextTurn book ≡ none
+  unfolding nextTurn shippers
+  turn-none nobody = nowhere searched (placeIf (hasAny book)) 4 1 (λ j l h. place-no (hasAny book) j (any-count j ∙ le-ltb _ _ (nobody j l (omega arith))))
+
+pub take-did : (book : Book) → Out book (answerTo take book) (afterTake book)
+unfolding answerTo afterTake takeOf handedOut oldestOf
+take-did book = by (isSound book) (nextTurn book) refl
+  where
+    by : (t : Bool) (next : Option ℕ) → nextTurn book ≡ next → Out book (unless (demand t 20) (handedOut book next))
+        (leftBy (unless (demand t 20) (handedOut book next)) (λ (handed : Handed). removed book (handed .shipper) (handed .number) (handed .shipper)) book)
+    by false next is = no-out 20 0
+    by true none is = no-out 27 0
+    by true (some turn) is =
+        let s = ofTurn book turn in
+        went-out s (getD (waitingOf book s) 0 0) s (turn-known book turn) (among-at _ (waitingOf book s) 0 (turn-any book turn is) refl) (turn-known book turn)
+
+-- what a take that hands one out tells
+out-waits : (book : Book) {answer : Answer} {left : Book} (s x : ℕ) → Out book answer left → answer ≡ done (record { shipper = s; number = x }) → (s < 4) × (isOneOf x (waitingOf book s) ≡ true)
+out-waits book s x (no-out n at) is = absurd (refused-not-done is)
+out-waits book s x (went-out t y last known waits turn) is =
+    let it = done-one is in
+    subst (λ (h : Handed). (h .shipper < 4) × (isOneOf (h .number) (waitingOf book (h .shipper)) ≡ true)) it (known, waits)
+
+pub handed-out : (book : Book) (s x : ℕ) → takeOf book ≡ done (record { shipper = s; number = x }) → (isSound book ≡ true) × (s < 4) × (isOneOf x (waitingOf book s) ≡ true)
+unfolding answerTo takeOf
+handed-out book s x is =
+    let waits = out-waits book s x (take-did book) is in
+    let sound = ⊎-elim (λ t. t) (λ f. absurd (refused-not-done (sym (ap (λ (t : Bool). unless (demand t 20) (handedOut book (nextTurn book))) f) ∙ is))) (decided (isSound book)) in
+    (sound, waits .0, waits .1)
+
+module _ (book : Book) (sound : SoundBook book) (s : ℕ) (known : s < 4) where
   -- a shipper's numbers in a sound book
   pub at-proper : areProper (waitingOf book s) ≡ true
-  unfolding waitingOf isSoundAt
-  at-proper = line-proper _ (lineAt book s) (sound-at book (sound-lines book (kept .sound)) s known)
+  unfolding waitingOf
+  at-proper = sound .lines s known .proper
 
   pub at-ceiling : has book s ≤ ceiling book s
-  unfolding ceiling
-  at-ceiling = let few = at-count book (kept .shape) (sound-lines book (kept .sound)) s known in let many = has-count book (kept .shape) (sound-lines book (kept .sound)) s known in omega arith
-
-  -- fewer waiting fit where more did
-  pub kept-fewer : (xs : List ℕ) (last : ℕ) → length xs ≤ has book s → areProper xs ≡ true → last < 4 → Kept (put book s xs last)
-  kept-fewer xs last fewer proper turn =
-      let top = at-ceiling in
-      let used = sound-commons book (kept .sound) in
-      let change = commons-put book s xs last (kept .shape) known in
-      kept-put book s xs last kept known (omega arith) proper (omega arith) turn
+  at-ceiling = let few = sound .lines s known .few in let many = has-count book s (sound .lines s known) in omega arith
 
 -- one more fits: below the reserve it takes no shared place, and beyond it one was free
-room-fits : (book : Book) → Kept book → (s x : ℕ) → Accepted book s x → commonsUsed (put book s (waitingOf book s ++ (x ∷ [])) (book .last)) ≤ commons book
+room-fits : (book : Book) → SoundBook book → (s x : ℕ) → Accepted book s x → commonsUsed (put book s (waitingOf book s ++ (x ∷ [])) (book .last)) ≤ commons book
 unfolding hasRoom has
-room-fits book kept s x told =
-    let change = commons-put book s (waitingOf book s ++ (x ∷ [])) (book .last) (kept .shape) (told .call .known) in
-    let used = sound-commons book (kept .sound) in
-    let one : length (waitingOf book s ++ (x ∷ [])) ≡ length (waitingOf book s) + 1 = length-append (waitingOf book s) (x ∷ []) in
-    ⊎-elim (λ few. let low : length (waitingOf book s) < reserve book s = ltb-true _ _ few in omega arith) (λ many. let free : commonsUsed book < commons book = ltb-true _ _ (sym (ap (λ (t : Bool). t || ltb (commonsUsed book) (commons book)) many) ∙ told .room) in omega arith)
-    (decided (ltb (length (waitingOf book s)) (reserve book s)))
+room-fits book sound s x told =
+    let w = waitingOf book s in
+    let change = commons-put book s (w ++ (x ∷ [])) (book .last) (sound .four) (told .call .known) in
+    let used = sound .used in
+    let one : length (w ++ (x ∷ [])) ≡ length w + 1 = length-append w (x ∷ []) in
+    ⊎-elim (λ few. let low : length w < reserve book s = ltb-true _ _ few in omega arith)
+    (λ many. let free : commonsUsed book < commons book = ltb-true _ _ (sym (ap (λ (t : Bool). t || ltb (commonsUsed book) (commons book)) many) ∙ told .room) in omega arith)
+    (decided (ltb (length w) (reserve book s)))
 
-kept-request : (book : Book) → Kept book → (s x : ℕ) → Kept (afterRequest book s x)
-unfolding has
-kept-request book kept s x =
-    ⊎-elim
-    (λ w.
-    let told = w .told in
-    let one : length (waitingOf book s ++ (x ∷ [])) ≡ length (waitingOf book s) + 1 = length-append (waitingOf book s) (x ∷ []) in
+sound-in : (book : Book) → SoundBook book → {answer : Answer} {left : Book} → In book answer left → SoundBook left
+unfolding entered has
+sound-in book sound (no-in n at) = sound
+sound-in book sound (went-in s x told) =
+    let w = waitingOf book s in
+    let known = told .call .known in
+    let one : length (w ++ (x ∷ [])) ≡ length w + 1 = length-append w (x ∷ []) in
     let below = told .below in
-    subst Kept (sym (w .left))
-    (kept-put book s (waitingOf book s ++ (x ∷ [])) (book .last) kept (told .call .known) (omega arith) (proper-more x _ (at-proper book kept s (told .call .known)) (told .new) (told .call .valid)) (room-fits book kept s x told)
-    (sound-last book (kept .sound)))) (λ u. subst Kept (sym (u .same)) kept) (request-did book s x)
+    sound-put book s (w ++ (x ∷ [])) (book .last) sound known (omega arith) (proper-more x w (at-proper book sound s known) (told .new) (told .call .valid)) (room-fits book sound s x told) (sound .turn)
 
-kept-withdrawal : (book : Book) → Kept book → (s x : ℕ) → Kept (afterWithdrawal book s x)
-unfolding has
-kept-withdrawal book kept s x =
-    ⊎-elim
-    (λ w. subst Kept (sym (w .left)) (kept-fewer book kept s (w .told .call .known) (without x (waitingOf book s)) (book .last) (length-without x (waitingOf book s)) (proper-without x _ (at-proper book kept s (w .told .call .known))) (sound-last book (kept .sound))))
-    (λ u. subst Kept (sym (u .same)) kept) (withdrawal-did book s x)
+sound-out : (book : Book) → SoundBook book → {answer : Answer} {left : Book} → Out book answer left → SoundBook left
+unfolding removed has
+sound-out book sound (no-out n at) = sound
+sound-out book sound (went-out s x last known waits turn) =
+    let w = waitingOf book s in
+    let top = at-ceiling book sound s known in
+    let fewer = length-without x w in
+    let used = sound .used in
+    let change = commons-put book s (without x w) last (sound .four) known in
+    sound-put book s (without x w) last sound known (omega arith) (proper-without x w (at-proper book sound s known)) (omega arith) turn
 
-kept-take : (book : Book) → Kept book → Kept (afterTake book)
-unfolding has
-kept-take book kept =
-    let n = nextShipper book in
-    let known = next-known book in
-    let fewer : length (drop 1 (waitingOf book n)) ≤ length (waitingOf book n) = rw (length-drop 1 (waitingOf book n)) (omega arith) in
-    ⊎-elim (λ w. subst Kept (sym (w .left)) (kept-fewer book kept n known (drop 1 (waitingOf book n)) n fewer (proper-drop _ (at-proper book kept n known)) known))
-    (λ u. subst Kept (sym (u .same)) kept) (take-did book)
-
-pub kept-after : (call : Call) (book : Book) → Kept book → Kept (after call book)
+pub sound-after : (call : Call) (book : Book) → SoundBook book → SoundBook (after call book)
 unfolding after
-kept-after (request s x) book kept = kept-request book kept s x
-kept-after (withdrawal s x) book kept = kept-withdrawal book kept s x
-kept-after take book kept = kept-take book kept
+sound-after (request s x) book sound = sound-in book sound (request-did book s x)
+sound-after (withdrawal s x) book sound = sound-out book sound (withdrawal-did book s x)
+sound-after take book sound = sound-out book sound (take-did book)
 
-pub kept-run : (calls : List Call) (book : Book) → Kept book → Kept (run calls book)
-unfolding run
-kept-run [] book kept = kept
-kept-run (call ∷ calls) book kept = kept-run calls (after call book) (kept-after call book kept)
+pub sound-all : (calls : List Call) (book : Book) → SoundBook book → SoundBook (afterAll calls book)
+unfolding afterAll
+sound-all [] book sound = sound
+sound-all (call ∷ calls) book sound = sound-all calls (after call book) (sound-after call book sound)
 
-empty-places : (s : ℕ) → s < 4 → length (lineAt emptyBook s .numbers) ≡ 16
-unfolding emptyBook lineAt lineOf places shippers
-empty-places zero h = refl
-empty-places (suc zero) h = refl
-empty-places (suc (suc zero)) h = refl
-empty-places (suc (suc (suc zero))) h = refl
-empty-places (suc (suc (suc (suc s)))) h = absurd (omega arith)
-
-pub kept-empty : Kept emptyBook
-unfolding emptyBook shippers lineOf places isSound areLinesSound isSoundAt isLineSound areProper areZero commonsUsed beyond has waitingOf lineAt waiting reserve ceiling commons
-kept-empty = record { sound = refl; shape = (refl, empty-places) }
+pub empty-sound : isSound emptyBook ≡ true
+unfolding emptyBook shippers overShippers places lineOf isSound areLinesSound isSoundAt isLineSound areProper zeroBetween isZeroAt firstToLast commonsUsed beyond has waitingOf lineAt waiting reserve ceiling commons
+empty-sound = refl
 
 -- nothing waits in the empty book
 pub empty-waiting : (s : ℕ) → waitingOf emptyBook s ≡ []
-unfolding emptyBook shippers lineOf places waitingOf lineAt waiting
+unfolding emptyBook shippers lineOf waitingOf lineAt waiting
 empty-waiting zero = refl
 empty-waiting (suc zero) = refl
 empty-waiting (suc (suc zero)) = refl
 empty-waiting (suc (suc (suc zero))) = refl
 empty-waiting (suc (suc (suc (suc s)))) = refl
 
--- a request that went in waits behind those of its own shipper
-pub waiting-entered : (book : Book) (s x : ℕ) → Kept book → requestOf book s x ≡ done tt → waitingOf (afterRequest book s x) s ≡ waitingOf book s ++ (x ∷ [])
-unfolding afterRequest
-waiting-entered book s x kept answer =
-    let xs = waitingOf book s ++ (x ∷ []) in
-    ap (λ (b : Book). waitingOf b s) (changed (put book s xs (book .last)) book answer) ∙ waiting-put book s xs (book .last) (kept .shape) (accepted book s x answer .call .known)
+-- what holds of a shipper's line after a change: of the new numbers where it is that shipper's, of the old ones where it is another's
+pub put-line : (P : List ℕ → Type 0) (book : Book) (t : ℕ) (xs : List ℕ) (last s : ℕ) → SoundBook book → t < 4 → (s ≡ t → P xs) → ((s ≡ t → ⊥) → P (waitingOf book s))
+    → P (waitingOf (put book t xs last) s)
+put-line P book t xs last s sound known mine others = by (ℕ-discrete s t)
+  where
+    by : Dec (s ≡ t) → P (waitingOf (put book t xs last) s)
+    by (yes same) = subst P (sym (ap (waitingOf (put book t xs last)) same ∙ waiting-put book t xs last (sound .four) known)) (mine same)
+    by (no other) = subst P (sym (waiting-put-other book t xs last s other)) (others other)

@@ -1,15 +1,12 @@
 pub mod Bools
 pub mod Lists
+pub mod Waiting
 pub mod Lines
-pub mod Shape
 pub mod Books
 pub mod Calls
-pub mod Turns
-pub mod Waiting
 pub mod Puts
 pub mod Kept
 pub mod Fates
 pub mod Counts
 pub mod Demand3
 pub mod Outcomes
-pub mod Figures

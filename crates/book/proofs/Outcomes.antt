@@ -1,7 +1,6 @@
 -- An answer's meaning loses nothing, and no second outcome satisfies a contract.
 use mathlib.Core.Path.{_≡_, refl, sym, ap, _∙_}
 use mathlib.Core.Bool.{Bool}
-use Prim.Native.Nat.{ℕ}
 use Rattle.refusals.specs.Told.{Told, refused}
 use Rattle.refusals.specs.Table.{numberOf, recordOf}
 use Rattle.refusals.specs.declared.Refusal.{Refusal}
@@ -13,12 +12,7 @@ use Rattle.book.specs.declared.Change.the-variants.{Made, Refused}
 use Rattle.book.specs.declared.Handout.{Handout}
 use Rattle.book.specs.declared.Handout.the-variants as handout
 use Rattle.book.specs.declared.Changed.{Changed}
-use Rattle.book.specs.declared.Taken.{Taken}
-use Rattle.book.proofs.Book.empty.Reads as empty
 use Rattle.book.proofs.sound.is_sound.Reads as is-sound
-use Rattle.book.proofs.request.Reads as request
-use Rattle.book.proofs.withdraw.Reads as withdraw
-use Rattle.book.proofs.take.Reads as take
 
 refusal-same : {A : Type 0} (r q : Refusal) → _≡_ {A = Told A} (refused (numberOf r) (recordOf r)) (refused (numberOf q) (recordOf q)) → r ≡ q
 refusal-same r q p = refusal-one r q (refused-number p) (refused-record p)
@@ -35,24 +29,9 @@ handout-one (handout.Handed s x) (handout.Refused r) p = absurd (refused-not-don
 handout-one (handout.Refused r) (handout.Handed s x) p = absurd (refused-not-done p)
 handout-one (handout.Refused r) (handout.Refused q) p = ap handout.Refused (refusal-same r q p)
 
--- two outcomes that satisfy the contract at the same arguments are the same
-pub empty-one-outcome : (r q : Book) → empty.Post tt tt r tt → empty.Post tt tt q tt → r ≡ q
-empty-one-outcome r q p p′ = p ∙ sym p′
-
+-- two outcomes that satisfy the contract at the same arguments are the same (the other entries are in `promises`)
 pub is-sound-one-outcome : (book : Book) (r q : Bool) → is-sound.Post tt (book, tt) r (book, tt) → is-sound.Post tt (book, tt) q (book, tt) → r ≡ q
 is-sound-one-outcome book r q p p′ = p ∙ sym p′
 
 pub changed-one : (r q : Changed) → toldChange (r .answer) ≡ toldChange (q .answer) → r .book ≡ q .book → r ≡ q
 changed-one r q told left = λ i. record { book = left i; answer = change-one (r .answer) (q .answer) told i }
-
-pub request-one-outcome : (book : Book) (shipper number : ℕ) (r q : Changed) → request.Post tt (book, (shipper, (number, tt))) r (book, (shipper, (number, tt))) → request.Post tt (book, (shipper, (number, tt))) q (book, (shipper, (number, tt))) → r ≡ q
-request-one-outcome book s x r q p p′ = changed-one r q (p .0 ∙ sym (p′ .0)) (p .1 ∙ sym (p′ .1))
-
-pub withdraw-one-outcome : (book : Book) (shipper number : ℕ) (r q : Changed) → withdraw.Post tt (book, (shipper, (number, tt))) r (book, (shipper, (number, tt))) → withdraw.Post tt (book, (shipper, (number, tt))) q (book, (shipper, (number, tt))) → r ≡ q
-withdraw-one-outcome book s x r q p p′ = changed-one r q (p .0 ∙ sym (p′ .0)) (p .1 ∙ sym (p′ .1))
-
-pub take-one-outcome : (book : Book) (r q : Taken) → take.Post tt (book, tt) r (book, tt) → take.Post tt (book, tt) q (book, tt) → r ≡ q
-take-one-outcome book r q p p′ =
-    let left = p .1 ∙ sym (p′ .1) in
-    let answer = handout-one (r .answer) (q .answer) (p .0 ∙ sym (p′ .0)) in
-    λ i. record { book = left i; answer = answer i }

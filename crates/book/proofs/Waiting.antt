@@ -1,18 +1,25 @@
--- Laws of a line's numbers when one more waits, one is withdrawn, or the oldest goes: which wait, how often, and at which place.
+-- Laws of a line's numbers when one more waits and when one leaves: which wait, how often, and at which place.
 use mathlib.Core.Path.{_≡_, refl, sym, ap, _∙_}
-use mathlib.Core.Logic.{_⊎_, inl, inr}
-use mathlib.Core.Bool.{Bool, true, false, _||_, not, cond, or-assoc, true≢false}
+use mathlib.Core.Bool.{Bool, true, false, _||_, not, cond, or-assoc, or-true, true≢false}
 use mathlib.Core.List.{List, [], _∷_, _++_}
-use Prim.Native.Nat.{ℕ, suc, _+_, _≤_, _<_}
+use Prim.Native.Nat.{ℕ, zero, suc, _+_, _≤_, _<_}
 use native.Mathlib.Decide.{ℕ-discrete}
+use native.Mathlib.Nat.{suc-add}
+use native.Mathlib.Numerals.{add-one}
 use native.Mathlib.Omega.{arith}
-use borrow.Author.Tests.{eq-eqb, ne-eqb, eqb-true, eqb-false, not-true}
+use borrow.Author.Tests.{eq-eqb, ne-eqb, eqb-true, not-true}
 use lib.Dec.{eqb}
-use lib.ListN.{length, drop, getD}
-use Rattle.book.specs.Line.{isIn, without, areProper}
-use Rattle.book.specs.Place.{placeOf}
-use Rattle.book.specs.Runs.{times}
+use lib.ListN.{length, take, drop, getD, drop-of-length-le}
+use lib.Seq.{length-take-le, take-suc, drop-append-le}
+use Rattle.octets.specs.Lists.{isOneOf}
+use Rattle.book.specs.Line.{without, areProper}
+use Rattle.book.specs.Demand3.{times}
 use Rattle.book.proofs.Bools.{both-first, both-second, both-true, not-of-false, neither-first, neither-second}
+use Rattle.book.proofs.Lists.{givenUp}
+
+-- one where it happens
+abbrev pub once : Bool → ℕ
+once happens = cond happens 1 0
 
 eqb-sym : (x y : ℕ) → eqb x y ≡ eqb y x
 eqb-sym x y = by (ℕ-discrete x y)
@@ -23,74 +30,79 @@ eqb-sym x y = by (ℕ-discrete x y)
 
 -- the parts of what proper numbers tell
 module _ (y : ℕ) (ys : List ℕ) (proper : areProper (y ∷ ys) ≡ true) where
-  pub proper-head : not (eqb y 0) ≡ true
+  proper-head : not (eqb y 0) ≡ true
   unfolding areProper
   proper-head = both-first (not (eqb y 0)) _ proper
 
-  pub proper-alone : isIn y ys ≡ false
+  proper-alone : isOneOf y ys ≡ false
   unfolding areProper
-  proper-alone = not-true _ (both-first (not (isIn y ys)) _ (both-second (not (eqb y 0)) _ proper))
+  proper-alone = not-true _ (both-first (not (isOneOf y ys)) _ (both-second (not (eqb y 0)) _ proper))
 
-  pub proper-rest : areProper ys ≡ true
+  proper-rest : areProper ys ≡ true
   unfolding areProper
-  proper-rest = both-second (not (isIn y ys)) _ (both-second (not (eqb y 0)) _ proper)
+  proper-rest = both-second (not (isOneOf y ys)) _ (both-second (not (eqb y 0)) _ proper)
+
+-- a number that stands at a place is one of them
+pub among-at : (x : ℕ) (xs : List ℕ) (k : ℕ) → k < length xs → getD xs k 0 ≡ x → isOneOf x xs ≡ true
+unfolding isOneOf
+among-at x [] k h is = absurd (omega arith)
+among-at x (y ∷ ys) zero h is = ap (λ (t : Bool). t || isOneOf x ys) (eq-eqb x y (sym is))
+among-at x (y ∷ ys) (suc k) h is = ap (λ (t : Bool). eqb x y || t) (among-at x ys k (omega arith) is) ∙ or-true (eqb x y)
 
 -- one more
-pub in-append : (x : ℕ) (xs ys : List ℕ) → isIn x (xs ++ ys) ≡ (isIn x xs || isIn x ys)
-unfolding isIn
-in-append x [] ys = refl
-in-append x (z ∷ zs) ys = ap (λ (t : Bool). eqb x z || t) (in-append x zs ys) ∙ sym (or-assoc (eqb x z) (isIn x zs) (isIn x ys))
+pub among-append : (x : ℕ) (xs ys : List ℕ) → isOneOf x (xs ++ ys) ≡ (isOneOf x xs || isOneOf x ys)
+unfolding isOneOf
+among-append x [] ys = refl
+among-append x (z ∷ zs) ys = ap (λ (t : Bool). eqb x z || t) (among-append x zs ys) ∙ sym (or-assoc (eqb x z) (isOneOf x zs) (isOneOf x ys))
 
-pub proper-more : (x : ℕ) (xs : List ℕ) → areProper xs ≡ true → isIn x xs ≡ false → (x ≡ 0 → ⊥) → areProper (xs ++ (x ∷ [])) ≡ true
-unfolding areProper isIn
+-- a number passed over from a place on
+pub missed-start : (x : ℕ) (xs : List ℕ) (from : ℕ) → from ≤ length xs → isOneOf x (drop from (take from xs)) ≡ false
+unfolding isOneOf
+missed-start x xs from h =
+    let short : length (take from xs) ≤ from = rw (length-take-le from xs h) (omega arith) in
+    ap (isOneOf x) (drop-of-length-le (take from xs) short)
+
+pub missed-next : (x : ℕ) (xs : List ℕ) (from i : ℕ) → from ≤ i → i < length xs → (x ≡ getD xs i 0 → ⊥) → isOneOf x (drop from (take i xs)) ≡ false → isOneOf x (drop from (take (i + 1) xs)) ≡ false
+unfolding isOneOf
+missed-next x xs from i l h other new =
+    let long : length (take i xs) ≡ i = length-take-le i xs (omega arith) in
+    ap (λ (n : ℕ). isOneOf x (drop from (take n xs))) (add-one i) ∙ ap (λ (ys : List ℕ). isOneOf x (drop from ys)) (take-suc xs i 0 h)
+    ∙ ap (isOneOf x) (drop-append-le from (take i xs) (getD xs i 0 ∷ []) (omega arith)) ∙ among-append x (drop from (take i xs)) (getD xs i 0 ∷ [])
+    ∙ (λ j. new j || (ne-eqb x (getD xs i 0) other j || false))
+
+pub proper-more : (x : ℕ) (xs : List ℕ) → areProper xs ≡ true → isOneOf x xs ≡ false → (x ≡ 0 → ⊥) → areProper (xs ++ (x ∷ [])) ≡ true
+unfolding areProper isOneOf
 proper-more x [] proper new valid = both-true (not-of-false (ne-eqb x 0 valid)) refl
 proper-more x (y ∷ ys) proper new valid =
-    let other : eqb y x ≡ false = eqb-sym y x ∙ neither-first (eqb x y) (isIn x ys) new in
-    let alone : isIn y (ys ++ (x ∷ [])) ≡ false = in-append y ys (x ∷ []) ∙ (λ i. proper-alone y ys proper i || (other i || false)) in
-    both-true (proper-head y ys proper) (both-true (not-of-false alone) (proper-more x ys (proper-rest y ys proper) (neither-second (eqb x y) (isIn x ys) new) valid))
+    let other : eqb y x ≡ false = eqb-sym y x ∙ neither-first (eqb x y) (isOneOf x ys) new in
+    let alone : isOneOf y (ys ++ (x ∷ [])) ≡ false = among-append y ys (x ∷ []) ∙ (λ i. proper-alone y ys proper i || (other i || false)) in
+    let rest = proper-more x ys (proper-rest y ys proper) (neither-second (eqb x y) (isOneOf x ys) new) valid in
+    both-true (proper-head y ys proper) (both-true (not-of-false alone) rest)
 
 pub times-append : (x : ℕ) (xs ys : List ℕ) → times x (xs ++ ys) ≡ times x xs + times x ys
 unfolding times
 times-append x [] ys = omega arith
-times-append x (z ∷ zs) ys = by (eqb x z) (times-append x zs ys)
-  where
-    by : (t : Bool) → times x (zs ++ ys) ≡ times x zs + times x ys → cond t (suc (times x (zs ++ ys))) (times x (zs ++ ys)) ≡ cond t (suc (times x zs)) (times x zs) + times x ys
-    by true rest = omega arith
-    by false rest = rest
-
-pub place-append : (x : ℕ) (xs ys : List ℕ) → isIn x xs ≡ true → placeOf x (xs ++ ys) ≡ placeOf x xs
-unfolding placeOf isIn
-place-append x [] ys waits = absurd (true≢false (sym waits))
-place-append x (z ∷ zs) ys waits = by (eqb x z) waits (place-append x zs ys)
-  where
-    by : (t : Bool) → (t || isIn x zs) ≡ true → (isIn x zs ≡ true → placeOf x (zs ++ ys) ≡ placeOf x zs) → cond t 0 (suc (placeOf x (zs ++ ys))) ≡ cond t 0 (suc (placeOf x zs))
-    by true w rest = refl
-    by false w rest = ap suc (rest w)
-
-pub place-new : (x : ℕ) (xs : List ℕ) → isIn x xs ≡ false → placeOf x (xs ++ (x ∷ [])) ≡ length xs
-unfolding placeOf isIn
-place-new x [] new = ap (λ (t : Bool). cond t 0 1) (eq-eqb x x refl)
-place-new x (z ∷ zs) new =
-    ap (λ (t : Bool). cond t 0 (suc (placeOf x (zs ++ (x ∷ []))))) (neither-first (eqb x z) (isIn x zs) new) ∙ ap suc (place-new x zs (neither-second (eqb x z) (isIn x zs) new))
+times-append x (z ∷ zs) ys = let rest = times-append x zs ys in omega arith
 
 -- how often: not at all where it is not among them, at most once among proper numbers
-pub times-none : (x : ℕ) (xs : List ℕ) → isIn x xs ≡ false → times x xs ≡ 0
-unfolding times isIn
+pub times-none : (x : ℕ) (xs : List ℕ) → isOneOf x xs ≡ false → times x xs ≡ 0
+unfolding times isOneOf
 times-none x [] new = refl
-times-none x (z ∷ zs) new = ap (λ (t : Bool). cond t (suc (times x zs)) (times x zs)) (neither-first (eqb x z) (isIn x zs) new) ∙ times-none x zs (neither-second (eqb x z) (isIn x zs) new)
+times-none x (z ∷ zs) new =
+    λ i. once (neither-first (eqb x z) (isOneOf x zs) new i) + times-none x zs (neither-second (eqb x z) (isOneOf x zs) new) i
 
 pub times-once : (x : ℕ) (xs : List ℕ) → areProper xs ≡ true → times x xs ≤ 1
 unfolding times
 times-once x [] proper = omega arith
 times-once x (z ∷ zs) proper = by (ℕ-discrete x z) (times-once x zs (proper-rest z zs proper))
   where
-    by : Dec (x ≡ z) → times x zs ≤ 1 → cond (eqb x z) (suc (times x zs)) (times x zs) ≤ 1
+    by : Dec (x ≡ z) → times x zs ≤ 1 → once (eqb x z) + times x zs ≤ 1
     by (yes same) rest =
-        let none : times x zs ≡ 0 = times-none x zs (ap (λ (y : ℕ). isIn y zs) same ∙ proper-alone z zs proper) in
+        let none : times x zs ≡ 0 = times-none x zs (ap (λ (y : ℕ). isOneOf y zs) same ∙ proper-alone z zs proper) in
         rw (eq-eqb x z same) (omega arith)
-    by (no other) rest = rw (ne-eqb x z other) rest
+    by (no other) rest = rw (ne-eqb x z other) (omega arith)
 
--- one withdrawn
+-- one leaves
 pub length-without : (x : ℕ) (xs : List ℕ) → length (without x xs) ≤ length xs
 unfolding without
 length-without x [] = omega arith
@@ -100,14 +112,14 @@ length-without x (z ∷ zs) = by (eqb x z) (length-without x zs)
     by true rest = omega arith
     by false rest = omega arith
 
-pub in-without : (x y : ℕ) (xs : List ℕ) → isIn y xs ≡ false → isIn y (without x xs) ≡ false
-unfolding without isIn
-in-without x y [] new = refl
-in-without x y (z ∷ zs) new = by (eqb x z) (in-without x y zs (neither-second (eqb y z) (isIn y zs) new))
+among-without : (x y : ℕ) (xs : List ℕ) → isOneOf y xs ≡ false → isOneOf y (without x xs) ≡ false
+unfolding without isOneOf
+among-without x y [] new = refl
+among-without x y (z ∷ zs) new = by (eqb x z) (among-without x y zs (neither-second (eqb y z) (isOneOf y zs) new))
   where
-    by : (t : Bool) → isIn y (without x zs) ≡ false → isIn y (cond t zs (z ∷ without x zs)) ≡ false
-    by true rest = neither-second (eqb y z) (isIn y zs) new
-    by false rest = λ i. neither-first (eqb y z) (isIn y zs) new i || rest i
+    by : (t : Bool) → isOneOf y (without x zs) ≡ false → isOneOf y (cond t zs (z ∷ without x zs)) ≡ false
+    by true rest = neither-second (eqb y z) (isOneOf y zs) new
+    by false rest = λ i. neither-first (eqb y z) (isOneOf y zs) new i || rest i
 
 pub proper-without : (x : ℕ) (xs : List ℕ) → areProper xs ≡ true → areProper (without x xs) ≡ true
 unfolding without areProper
@@ -116,75 +128,54 @@ proper-without x (z ∷ zs) proper = by (eqb x z) (proper-without x zs (proper-r
   where
     by : (t : Bool) → areProper (without x zs) ≡ true → areProper (cond t zs (z ∷ without x zs)) ≡ true
     by true rest = proper-rest z zs proper
-    by false rest = both-true (proper-head z zs proper) (both-true (not-of-false (in-without x z zs (proper-alone z zs proper))) rest)
+    by false rest = both-true (proper-head z zs proper) (both-true (not-of-false (among-without x z zs (proper-alone z zs proper))) rest)
 
-pub times-without : (x : ℕ) (xs : List ℕ) → isIn x xs ≡ true → times x (without x xs) + 1 ≡ times x xs
-unfolding without isIn times
-times-without x [] waits = absurd (true≢false (sym waits))
-times-without x (z ∷ zs) waits = by (eqb x z) refl waits (times-without x zs)
+-- the one that leaves is one fewer, and every other is as many
+pub times-without : (x y : ℕ) (xs : List ℕ) → isOneOf y xs ≡ true → times x xs ≡ once (eqb x y) + times x (without y xs)
+unfolding without isOneOf times
+times-without x y [] waits = absurd (true≢false (sym waits))
+times-without x y (z ∷ zs) waits = by (eqb y z) refl waits (times-without x y zs)
   where
-    by : (t : Bool) → eqb x z ≡ t → (t || isIn x zs) ≡ true → (isIn x zs ≡ true → times x (without x zs) + 1 ≡ times x zs)
-        → times x (cond t zs (z ∷ without x zs)) + 1 ≡ cond t (suc (times x zs)) (times x zs)
-    by true is w rest = omega arith
-    by false is w rest = ap (λ (t : Bool). cond t (suc (times x (without x zs))) (times x (without x zs)) + 1) is ∙ rest w
+    by : (t : Bool) → eqb y z ≡ t → (t || isOneOf y zs) ≡ true → (isOneOf y zs ≡ true → times x zs ≡ once (eqb x y) + times x (without y zs))
+        → once (eqb x z) + times x zs ≡ once (eqb x y) + times x (cond t zs (z ∷ without y zs))
+    by true is w rest = ap (λ (k : ℕ). once (eqb x k) + times x zs) (sym (eqb-true y z is))
+    by false is w rest = let r = rest w in omega arith
 
-pub times-without-other : (x y : ℕ) (xs : List ℕ) → (x ≡ y → ⊥) → times x (without y xs) ≡ times x xs
-unfolding without times
-times-without-other x y [] other = refl
-times-without-other x y (z ∷ zs) other = by (eqb y z) refl (times-without-other x y zs other)
+-- the oldest leaves first
+pub oldest-without : (xs : List ℕ) → 0 < length xs → without (getD xs 0 0) xs ≡ drop 1 xs
+unfolding without
+oldest-without [] h = absurd (omega arith)
+oldest-without (y ∷ ys) h = ap (λ (t : Bool). cond t ys (y ∷ without y ys)) (eq-eqb y y refl)
+
+-- the first place that holds a number is the one that it gives up
+pub without-at : (x : ℕ) (xs : List ℕ) (p : ℕ) → p < length xs → isOneOf x (take p xs) ≡ false → getD xs p 0 ≡ x → givenUp p xs ≡ without x xs
+unfolding givenUp without isOneOf
+without-at x [] p h new is = absurd (omega arith)
+without-at x (y ∷ ys) zero h new is = sym (ap (λ (t : Bool). cond t ys (y ∷ without x ys)) (eq-eqb x y (sym is)))
+without-at x (y ∷ ys) (suc p) h new is =
+    let other = neither-first (eqb x y) (isOneOf x (take p ys)) new in
+    let rest = without-at x ys p (omega arith) (neither-second (eqb x y) (isOneOf x (take p ys)) new) is in
+    ap (λ (n : ℕ). y ∷ take p ys ++ drop n (y ∷ ys)) (suc-add p 1) ∙ ap (λ (l : List ℕ). y ∷ l) rest
+    ∙ sym (ap (λ (t : Bool). cond t ys (y ∷ without x ys)) other)
+
+-- a number stands no further back than k others
+pub record Stands (x : ℕ) (xs : List ℕ) (k : ℕ) : Type 0 where
+  pub place : ℕ
+  pub near : place ≤ k
+  pub within : place < length xs
+  pub there : getD xs place 0 ≡ x
+
+-- where another leaves it comes no further back
+pub stands-without : (x y : ℕ) (xs : List ℕ) (p : ℕ) → (x ≡ y → ⊥) → p < length xs → getD xs p 0 ≡ x → Stands x (without y xs) p
+unfolding without
+stands-without x y [] p other h is = absurd (omega arith)
+stands-without x y (z ∷ zs) zero other h is = by (eqb y z) refl
   where
-    by : (t : Bool) → eqb y z ≡ t → times x (without y zs) ≡ times x zs → times x (cond t zs (z ∷ without y zs)) ≡ cond (eqb x z) (suc (times x zs)) (times x zs)
-    by true is rest = ap (λ (t : Bool). cond t (suc (times x zs)) (times x zs)) (sym (ne-eqb x z (λ e. other (e ∙ sym (eqb-true y z is)))))
-    by false is rest = ap (λ (n : ℕ). cond (eqb x z) (suc n) n) rest
-
--- where another is withdrawn a number waits still, no further back
-pub in-without-other : (x y : ℕ) (xs : List ℕ) → (x ≡ y → ⊥) → isIn x (without y xs) ≡ isIn x xs
-unfolding without isIn
-in-without-other x y [] other = refl
-in-without-other x y (z ∷ zs) other = by (eqb y z) refl (in-without-other x y zs other)
+    by : (t : Bool) → eqb y z ≡ t → Stands x (cond t zs (z ∷ without y zs)) 0
+    by true same = absurd (other (sym is ∙ sym (eqb-true y z same)))
+    by false same = record { place = 0; near = omega arith; within = omega arith; there = is }
+stands-without x y (z ∷ zs) (suc p) other h is = by (eqb y z) (stands-without x y zs p other (omega arith) is)
   where
-    by : (t : Bool) → eqb y z ≡ t → isIn x (without y zs) ≡ isIn x zs → isIn x (cond t zs (z ∷ without y zs)) ≡ (eqb x z || isIn x zs)
-    by true is rest = ap (λ (t : Bool). t || isIn x zs) (sym (ne-eqb x z (λ e. other (e ∙ sym (eqb-true y z is)))))
-    by false is rest = ap (λ (t : Bool). eqb x z || t) rest
-
-pub place-without-other : (x y : ℕ) (xs : List ℕ) → (x ≡ y → ⊥) → placeOf x (without y xs) ≤ placeOf x xs
-unfolding without placeOf
-place-without-other x y [] other = omega arith
-place-without-other x y (z ∷ zs) other = by (eqb y z) refl (place-without-other x y zs other)
-  where
-    late : (t : Bool) {a b : ℕ} → a ≤ b → cond t 0 (suc a) ≤ cond t 0 (suc b)
-    late true h = omega arith
-    late false h = omega arith
-
-    by : (t : Bool) → eqb y z ≡ t → placeOf x (without y zs) ≤ placeOf x zs → placeOf x (cond t zs (z ∷ without y zs)) ≤ cond (eqb x z) 0 (suc (placeOf x zs))
-    by true is rest = rw (ne-eqb x z (λ e. other (e ∙ sym (eqb-true y z is)))) (omega arith)
-    by false is rest = late (eqb x z) rest
-
--- the oldest goes
-pub proper-drop : (xs : List ℕ) → areProper xs ≡ true → areProper (drop 1 xs) ≡ true
-proper-drop [] proper = proper
-proper-drop (z ∷ zs) proper = proper-rest z zs proper
-
-pub times-drop : (x : ℕ) (xs : List ℕ) → 0 < length xs → times x xs ≡ cond (eqb x (getD xs 0 0)) 1 0 + times x (drop 1 xs)
-unfolding times
-times-drop x [] some = absurd (omega arith)
-times-drop x (z ∷ zs) some = by (eqb x z)
-  where
-    by : (t : Bool) → cond t (suc (times x zs)) (times x zs) ≡ cond t 1 0 + times x zs
-    by true = omega arith
-    by false = omega arith
-
--- a number that waits is the oldest, or waits one place further on when the oldest has gone
-pub record Behind (x : ℕ) (xs : List ℕ) : Type 0 where
-  pub other : x ≡ getD xs 0 0 → ⊥
-  pub still : isIn x (drop 1 xs) ≡ true
-  pub nearer : suc (placeOf x (drop 1 xs)) ≡ placeOf x xs
-
-pub oldest-or-behind : (x : ℕ) (xs : List ℕ) → isIn x xs ≡ true → (x ≡ getD xs 0 0) ⊎ Behind x xs
-unfolding isIn placeOf
-oldest-or-behind x [] waits = absurd (true≢false (sym waits))
-oldest-or-behind x (z ∷ zs) waits = by (eqb x z) refl waits
-  where
-    by : (t : Bool) → eqb x z ≡ t → (t || isIn x zs) ≡ true → (x ≡ z) ⊎ Behind x (z ∷ zs)
-    by true is w = inl (eqb-true x z is)
-    by false is w = inr (record { other = eqb-false x z is; still = w; nearer = ap (λ (t : Bool). cond t 0 (suc (placeOf x zs))) (sym is) })
+    by : (t : Bool) → Stands x (without y zs) p → Stands x (cond t zs (z ∷ without y zs)) (suc p)
+    by true rest = record { place = p; near = omega arith; within = omega arith; there = is }
+    by false rest = record { place = suc (rest .place); near = omega arith; within = omega arith; there = rest .there }

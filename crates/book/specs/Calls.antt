@@ -1,20 +1,18 @@
 -- 01, 'The book': what a request, a withdrawal and a take answer, and the book that each leaves.
-use mathlib.Core.Bool.{Bool, _||_, not, cond}
+use mathlib.Core.Bool.{Bool, _||_, not}
 use mathlib.Core.List.{[], _∷_, _++_}
-use Prim.Native.Nat.{ℕ, zero, suc, _+_, _%_}
+use mathlib.Core.Option.{Option, none, some}
+use Prim.Native.Nat.{ℕ, _+_, _%_}
 use lib.Dec.{ltb, eqb}
-use lib.ListN.{getD, drop}
-use Rattle.refusals.specs.Told.{Told, done, refused, Fault, demand, orElse, judged}
-use Rattle.book.specs.Line.{isIn, without}
+use lib.ListN.{getD}
+use Rattle.refusals.specs.Told.{Told, done, refused, Fault, demand, orElse, unless, judged, leftBy}
+use Rattle.octets.specs.FirstToLast.{firstPlace}
+use Rattle.octets.specs.Lists.{isOneOf}
+use Rattle.book.specs.Line.{without}
 use Rattle.book.specs.Figures.{shippers, reserve, ceiling, commons, waitingOf, has, commonsUsed, put}
 use Rattle.book.specs.Sound.{isSound}
 use Rattle.book.specs.Answers.{Handed}
 use Rattle.book.specs.declared.Book.{Book}
-
--- Demand 1: a refusal 'hands the book of waiting requests back unchanged'.
-abbrev pub leftBy : {A : Type 0} → Told A → Book → Book → Book
-leftBy (done result) changed book = changed
-leftBy (refused number at) changed book = book
 
 -- 'a request 20 to 25; a withdrawal 20, 21, 22, 26': the first three are the same.
 unfoldable pub callFault : Book → ℕ → ℕ → Fault
@@ -27,69 +25,68 @@ callFault book shipper number =
 unfoldable pub hasRoom : Book → ℕ → Bool
 hasRoom book shipper = ltb (has book shipper) (reserve book shipper) || ltb (commonsUsed book) (commons book)
 
+-- 23, 24 and 25: what its own line and the commons say of a request
+unfoldable pub entryFault : Book → ℕ → ℕ → Fault
+entryFault book shipper number =
+    orElse (demand (not (isOneOf number (waitingOf book shipper))) 23)
+    (orElse (demand (ltb (has book shipper) (ceiling book shipper)) 24)
+    (demand (hasRoom book shipper) 25))
+
 -- 'A request goes in exactly when none of 20 to 25 applies', lowest number first.
 unfoldable pub requestFault : Book → ℕ → ℕ → Fault
-requestFault book shipper number =
-    orElse (callFault book shipper number)
-    (orElse (demand (not (isIn number (waitingOf book shipper))) 23)
-    (orElse (demand (ltb (has book shipper) (ceiling book shipper)) 24)
-    (demand (hasRoom book shipper) 25)))
+requestFault book shipper number = orElse (callFault book shipper number) (entryFault book shipper number)
 
 unfoldable pub requestOf : Book → ℕ → ℕ → Told Unit
 requestOf book shipper number = judged (requestFault book shipper number) tt
 
--- The request waits behind those of its own shipper.
+-- The book with the request waiting behind those of its own shipper.
+unfoldable pub entered : Book → ℕ → ℕ → Book
+entered book shipper number = put book shipper (waitingOf book shipper ++ (number ∷ [])) (book .last)
+
 unfoldable pub afterRequest : Book → ℕ → ℕ → Book
-afterRequest book shipper number =
-    leftBy (requestOf book shipper number) (put book shipper (waitingOf book shipper ++ (number ∷ [])) (book .last)) book
+afterRequest book shipper number = leftBy (requestOf book shipper number) (λ (made : Unit). entered book shipper number) book
 
 -- 'a withdrawal 20, 21, 22, 26'
 unfoldable pub withdrawalFault : Book → ℕ → ℕ → Fault
 withdrawalFault book shipper number =
     orElse (callFault book shipper number)
-    (demand (isIn number (waitingOf book shipper)) 26)
+    (demand (isOneOf number (waitingOf book shipper)) 26)
 
 unfoldable pub withdrawalOf : Book → ℕ → ℕ → Told Unit
 withdrawalOf book shipper number = judged (withdrawalFault book shipper number) tt
 
--- 'removes that number from its shipper's line and keeps the order of the rest'
+-- The book without the request, the rest of its shipper's in their order, and with this last served.
+unfoldable pub removed : Book → ℕ → ℕ → ℕ → Book
+removed book shipper number last = put book shipper (without number (waitingOf book shipper)) last
+
 unfoldable pub afterWithdrawal : Book → ℕ → ℕ → Book
-afterWithdrawal book shipper number =
-    leftBy (withdrawalOf book shipper number) (put book shipper (without number (waitingOf book shipper)) (book .last)) book
+afterWithdrawal book shipper number = leftBy (withdrawalOf book shipper number) (λ (made : Unit). removed book shipper number (book .last)) book
 
--- The shipper after this one, going round.
-unfoldable pub following : ℕ → ℕ
-following shipper = (shipper + 1) % shippers
+-- 'going round from the one after the last served', who has turn 1: the shipper of a turn
+unfoldable pub ofTurn : Book → ℕ → ℕ
+ofTurn book turn = (book .last + turn) % shippers
 
--- Something waits for the shipper.
+-- Something waits for the shipper of a turn.
 unfoldable pub hasAny : Book → ℕ → Bool
-hasAny book shipper = ltb 0 (has book shipper)
+hasAny book turn = ltb 0 (has book (ofTurn book turn))
 
--- 'the first shipper with any, going round': after so many that have none, the next is it.
-unfoldable pub firstFrom : (ℕ → Bool) → ℕ → ℕ → ℕ
-firstFrom any zero shipper = shipper
-firstFrom any (suc tries) shipper = cond (any shipper) shipper (firstFrom any tries (following shipper))
-
--- 'going round from the one after the last served', who comes last of the four
-unfoldable pub nextShipper : Book → ℕ
-nextShipper book = firstFrom (hasAny book) 3 (following (book .last))
-
--- Something waits for one of the four.
-unfoldable pub anyWaits : Book → Bool
-anyWaits book = hasAny book 0 || (hasAny book 1 || (hasAny book 2 || hasAny book 3))
-
--- 'a take 20, 27'
-unfoldable pub takeFault : Book → Fault
-takeFault book = orElse (demand (isSound book) 20) (demand (anyWaits book) 27)
+-- 'the first shipper with any': the first of the four turns whose shipper has any
+unfoldable pub nextTurn : Book → Option ℕ
+nextTurn book = firstPlace (hasAny book) shippers 1
 
 -- 'the oldest request' of a shipper
-unfoldable pub oldestOf : Book → ℕ → ℕ
-oldestOf book shipper = getD (waitingOf book shipper) 0 0
+unfoldable pub oldestOf : Book → ℕ → Handed
+oldestOf book shipper = record { shipper = shipper; number = getD (waitingOf book shipper) 0 0 }
 
--- 'A take hands out the oldest request of the first shipper with any'.
+-- 'A take hands out the oldest request of the first shipper with any'; 27 where none has
+unfoldable pub handedOut : Book → Option ℕ → Told Handed
+handedOut book none = refused 27 0
+handedOut book (some turn) = done (oldestOf book (ofTurn book turn))
+
+-- 'a take 20, 27'
 unfoldable pub takeOf : Book → Told Handed
-takeOf book = judged (takeFault book) (record { shipper = nextShipper book; number = oldestOf book (nextShipper book) })
+takeOf book = unless (demand (isSound book) 20) (handedOut book (nextTurn book))
 
 -- 'only a take that hands one out changes' the last served
 unfoldable pub afterTake : Book → Book
-afterTake book = leftBy (takeOf book) (put book (nextShipper book) (drop 1 (waitingOf book (nextShipper book))) (nextShipper book)) book
+afterTake book = leftBy (takeOf book) (λ (handed : Handed). removed book (handed .shipper) (handed .number) (handed .shipper)) book

@@ -10,6 +10,14 @@ use Rattle.book.specs.declared.Line.{Line}
 unfoldable pub shippers : ℕ
 shippers = 4
 
+-- a 'sum over shippers'
+unfoldable pub overShippers : (ℕ → ℕ) → ℕ
+overShippers of = of 0 + (of 1 + (of 2 + of 3))
+
+-- places 16, for all shippers of a book together
+unfoldable pub places : Book → ℕ
+places book = 16
+
 -- reserve 2, for every shipper of every book
 unfoldable pub reserve : Book → ℕ → ℕ
 reserve book shipper = 2
@@ -18,9 +26,9 @@ reserve book shipper = 2
 unfoldable pub ceiling : Book → ℕ → ℕ
 ceiling book shipper = 8
 
--- commons 8
+-- commons 8: the places that are nobody's reserve
 unfoldable pub commons : Book → ℕ
-commons book = 8
+commons book = places book - overShippers (reserve book)
 
 -- The line of a shipper.
 unfoldable pub lineAt : Book → ℕ → Line
@@ -34,13 +42,17 @@ waitingOf book shipper = waiting (lineAt book shipper)
 unfoldable pub has : Book → ℕ → ℕ
 has book shipper = length (waitingOf book shipper)
 
+-- How many wait in all.
+unfoldable pub held : Book → ℕ
+held book = overShippers (has book)
+
 -- 'what each has waiting beyond 2': none where it has 2 or fewer
 unfoldable pub beyond : Book → ℕ → ℕ
 beyond book shipper = has book shipper - reserve book shipper
 
 -- 'Commons used = sum over shippers of what each has waiting beyond 2.'
 unfoldable pub commonsUsed : Book → ℕ
-commonsUsed book = beyond book 0 + (beyond book 1 + (beyond book 2 + beyond book 3))
+commonsUsed book = overShippers (beyond book)
 
 -- The book with these numbers waiting for a shipper, and this last served; the other lines are as they were.
 unfoldable pub put : Book → ℕ → List ℕ → ℕ → Book

@@ -1,7 +1,6 @@
 pub mod Line
-pub mod Place
 pub mod Figures
 pub mod Sound
 pub mod Answers
 pub mod Calls
-pub mod Runs
+pub mod Demand3

@@ -1,16 +1,22 @@
--- 01, 'The book': when a book offered from outside is sound.
+-- 01, 'The book': when a book offered from outside is sound. Its record has the shape that every machine gives it: a line for each
+-- shipper, each as wide as a line is.
 use mathlib.Core.Bool.{Bool, _&&_}
 use Prim.Native.Nat.{ℕ}
-use lib.Dec.{leb, ltb}
-use lib.ListN.{drop}
-use Rattle.book.specs.Line.{waiting, areProper, areZero}
+use lib.Dec.{leb, ltb, eqb}
+use lib.ListN.{length}
+use Rattle.octets.specs.FirstToLast.{holdsAll}
+use Rattle.octets.specs.Octets.{zeroBetween}
+use Rattle.book.specs.Line.{width, waiting, areProper}
 use Rattle.book.specs.Figures.{shippers, ceiling, commons, lineAt, commonsUsed}
 use Rattle.book.specs.declared.Book.{Book}
 use Rattle.book.specs.declared.Line.{Line}
 
 -- The count keeps the ceiling, 'waiting numbers are non-zero and differ within a shipper, unused places are zero'.
 unfoldable pub isLineSound : ℕ → Line → Bool
-isLineSound ceiling line = leb (line .count) ceiling && (areProper (waiting line) && areZero (drop (line .count) (line .numbers)))
+isLineSound ceiling line =
+    eqb (length (line .numbers)) width
+    && (leb (line .count) ceiling
+    && (areProper (waiting line) && zeroBetween (line .numbers) (line .count) width))
 
 -- a shipper's line, with the shipper's own ceiling
 unfoldable pub isSoundAt : Book → ℕ → Bool
@@ -18,8 +24,11 @@ isSoundAt book shipper = isLineSound (ceiling book shipper) (lineAt book shipper
 
 -- every shipper's line
 unfoldable pub areLinesSound : Book → Bool
-areLinesSound book = isSoundAt book 0 && (isSoundAt book 1 && (isSoundAt book 2 && isSoundAt book 3))
+areLinesSound book = holdsAll (isSoundAt book) shippers 0
 
 -- 'counts and commons keep these figures, .. and the last served is 0 to 3'
 unfoldable pub isSound : Book → Bool
-isSound book = areLinesSound book && (leb (commonsUsed book) (commons book) && ltb (book .last) shippers)
+isSound book =
+    eqb (length (book .lines)) shippers
+    && (areLinesSound book
+    && (leb (commonsUsed book) (commons book) && ltb (book .last) shippers))

@@ -1,41 +1,40 @@
 // What a call is answered, in the paper's order: lowest number first.
 ghost use mathlib.Core.Path.{_≡_};
 ghost use mathlib.Core.Bool.{true};
-ghost use Prim.Native.Nat.{_<_};
-ghost use Rattle.refusals.specs.Told.{fine, judged};
-ghost use Rattle.book.specs.Answers.{toldChange, toldTake};
-ghost use Rattle.book.specs.Calls.{callFault, requestOf, withdrawalOf, nextShipper, takeOf};
+ghost use Rattle.refusals.specs.Told.{fine};
+ghost use Rattle.refusals.specs.Verdict.{faultOf};
+ghost use Rattle.octets.specs.Lists.{isOneOf};
+ghost use Rattle.book.specs.Answers.{toldTake};
+ghost use Rattle.book.specs.Calls.{callFault, entryFault, requestFault, withdrawalFault, nextTurn, handedOut, takeOf};
 ghost use Rattle.book.specs.Figures.{waitingOf};
-ghost use Rattle.book.specs.Line.{isIn};
 ghost use Rattle.book.specs.Sound.{isSound};
 use crate::Book;
-use crate::Change;
 use crate::Handout;
 use crate::SHIPPERS;
 use crate::queue;
 use crate::sound;
 use refusals::Refusal;
+use refusals::Verdict;
+use refusals::demand;
+use refusals::or_else;
 
 // 20, 21 and 22, which a request and a withdrawal share.
-fn judge_call(book: Book, shipper: u8, number: u32) -> Change
-    ensures { λ r. ⌜ toldChange r ≡ judged (callFault book shipper number) tt ⌝ }
+fn judge_call(book: Book, shipper: u8, number: u32) -> Verdict
+    ensures { λ r. ⌜ faultOf r ≡ callFault book shipper number ⌝ }
 {
-    if !sound::is_sound(book) {
-        return Change::Refused(Refusal::BookNotSound);
-    }
-    if SHIPPERS <= shipper {
-        return Change::Refused(Refusal::UnknownShipper);
-    }
-    if number == 0 {
-        return Change::Refused(Refusal::NumberZero);
-    }
-    Change::Made
+    or_else(
+        demand(sound::is_sound(book), Refusal::BookNotSound),
+        or_else(
+            demand(shipper < SHIPPERS, Refusal::UnknownShipper),
+            demand(number != 0, Refusal::NumberZero),
+        ),
+    )
 }
 
 // Whether a number waits in its shipper's line.
 fn is_waiting(book: Book, shipper: u8, number: u32) -> bool
     requires { ⌜ callFault book shipper number ≡ fine ⌝ }
-    ensures { λ r. ⌜ r ≡ isIn number (waitingOf book shipper) ⌝ }
+    ensures { λ r. ⌜ r ≡ isOneOf number (waitingOf book shipper) ⌝ }
 {
     let at = shipper as usize;
     let line = book.lines[at];
@@ -43,91 +42,71 @@ fn is_waiting(book: Book, shipper: u8, number: u32) -> bool
 }
 
 // 23, 24 and 25, once none of the first three applies.
-fn judge_place(book: Book, shipper: u8, number: u32) -> Change
+fn judge_entry(book: Book, shipper: u8, number: u32) -> Verdict
     requires { ⌜ callFault book shipper number ≡ fine ⌝ }
-    ensures { λ r. ⌜ toldChange r ≡ requestOf book shipper number ⌝ }
+    ensures { λ r. ⌜ faultOf r ≡ entryFault book shipper number ⌝ }
 {
-    if is_waiting(book, shipper, number) {
-        return Change::Refused(Refusal::AlreadyWaiting);
-    }
+    let waits = is_waiting(book, shipper, number);
+    let used = sound::count_commons_used(book);
     let at = shipper as usize;
     let count = book.lines[at].count;
-    if Book::CEILING <= count {
-        return Change::Refused(Refusal::CeilingReached);
-    }
-    if count < Book::RESERVE {
-        return Change::Made;
-    }
-    if sound::count_commons_used(book) < Book::COMMONS {
-        Change::Made
-    } else {
-        Change::Refused(Refusal::CommonsFull)
-    }
+    let room = (count < Book::RESERVE) | (used < Book::COMMONS);
+    or_else(
+        demand(!waits, Refusal::AlreadyWaiting),
+        or_else(
+            demand(count < Book::CEILING, Refusal::CeilingReached),
+            demand(room, Refusal::CommonsFull),
+        ),
+    )
 }
 
-pub(crate) fn judge_request(book: Book, shipper: u8, number: u32) -> Change
-    ensures { λ r. ⌜ toldChange r ≡ requestOf book shipper number ⌝ }
+pub(crate) fn judge_request(book: Book, shipper: u8, number: u32) -> Verdict
+    ensures { λ r. ⌜ faultOf r ≡ requestFault book shipper number ⌝ }
 {
     let call = judge_call(book, shipper, number);
     match call {
-        Change::Made => judge_place(book, shipper, number),
-        Change::Refused(_) => call,
+        Verdict::Fine => judge_entry(book, shipper, number),
+        Verdict::Refused(_) => call,
     }
 }
 
-// 26, once none of the first three applies.
-fn judge_waiting(book: Book, shipper: u8, number: u32) -> Change
-    requires { ⌜ callFault book shipper number ≡ fine ⌝ }
-    ensures { λ r. ⌜ toldChange r ≡ withdrawalOf book shipper number ⌝ }
-{
-    if is_waiting(book, shipper, number) {
-        Change::Made
-    } else {
-        Change::Refused(Refusal::NotWaiting)
-    }
-}
-
-pub(crate) fn judge_withdrawal(book: Book, shipper: u8, number: u32) -> Change
-    ensures { λ r. ⌜ toldChange r ≡ withdrawalOf book shipper number ⌝ }
+// 26 comes once none of the first three applies.
+pub(crate) fn judge_withdrawal(book: Book, shipper: u8, number: u32) -> Verdict
+    ensures { λ r. ⌜ faultOf r ≡ withdrawalFault book shipper number ⌝ }
 {
     let call = judge_call(book, shipper, number);
     match call {
-        Change::Made => judge_waiting(book, shipper, number),
-        Change::Refused(_) => call,
+        Verdict::Fine => demand(is_waiting(book, shipper, number), Refusal::NotWaiting),
+        Verdict::Refused(_) => call,
     }
 }
 
-// The first shipper with any, going round from the one after the last served, who is the last tried.
-fn find_next(book: Book) -> u8
+// The oldest request of the first shipper with any, going round from the one after the last
+// served, who is the last tried; 27 where none has any.
+fn hand_out(book: Book) -> Handout
     requires { ⌜ isSound book ≡ true ⌝ }
-    ensures { λ r. ⌜ r ≡ nextShipper book ⌝ }
+    ensures { λ r. ⌜ toldTake r ≡ handedOut book (nextTurn book) ⌝ }
 {
-    let lines = book.lines;
-    let mut shipper = (book.last + 1) % SHIPPERS;
-    let mut tries: usize = 3;
-    while 0 < tries {
+    let mut turn: u8 = 1;
+    while turn <= SHIPPERS {
+        let shipper = (book.last + turn) % SHIPPERS;
         let at = shipper as usize;
-        if 0 < lines[at].count {
-            return shipper;
+        let line = book.lines[at];
+        if 0 < line.count {
+            let numbers = line.numbers;
+            return Handout::Handed(shipper, numbers[0]);
         }
-        shipper = (shipper + 1) % SHIPPERS;
-        tries -= 1;
+        turn += 1;
     }
-    shipper
+    Handout::Refused(Refusal::NothingToTake)
 }
 
 pub(crate) fn judge_take(book: Book) -> Handout
     ensures { λ r. ⌜ toldTake r ≡ takeOf book ⌝ }
 {
-    if !sound::is_sound(book) {
-        return Handout::Refused(Refusal::BookNotSound);
+    if sound::is_sound(book) {
+        hand_out(book)
+    } else {
+        Handout::Refused(Refusal::BookNotSound)
     }
-    let shipper = find_next(book);
-    let at = shipper as usize;
-    let line = book.lines[at];
-    let numbers = line.numbers;
-    if line.count == 0 {
-        return Handout::Refused(Refusal::NothingToTake);
-    }
-    Handout::Handed(shipper, numbers[0])
 }

@@ -2,16 +2,15 @@
 // and a refusal hands the same book back. Its answers stand beside it, since a book holds arrays.
 ghost use mathlib.Core.Path.{_≡_};
 ghost use mathlib.Core.Bool.{true};
-ghost use mathlib.Core.List.{[], _∷_, _++_};
 ghost use Prim.Native.Nat.{_<_};
-ghost use lib.ListN.{drop};
-ghost use Rattle.refusals.specs.Told.{done};
+ghost use Rattle.refusals.specs.Told.{fine};
+ghost use Rattle.octets.specs.Lists.{isOneOf};
 ghost use Rattle.book.specs.Answers.{toldChange, toldTake};
-ghost use Rattle.book.specs.Calls.{requestOf, afterRequest, withdrawalOf, afterWithdrawal, takeOf, afterTake, hasAny};
-ghost use Rattle.book.specs.Figures.{emptyBook, put, waitingOf};
-ghost use Rattle.book.specs.Line.{without};
+ghost use Rattle.book.specs.Calls.{requestFault, requestOf, entered, afterRequest, withdrawalOf, removed, afterWithdrawal, takeOf, afterTake};
+ghost use Rattle.book.specs.Figures.{emptyBook, waitingOf};
 ghost use Rattle.book.specs.Sound.{isSound};
 use refusals::Refusal;
+use refusals::Verdict;
 
 mod judge;
 mod queue;
@@ -22,12 +21,17 @@ pub use sound::is_sound;
 // Shippers 0 to 3.
 const SHIPPERS: u8 = 4;
 
-// The requests of one shipper that wait, oldest first. Sixteen places for everybody, so that no
-// agreement about places changes the record. Laid out as C does, for controllers that keep a book.
+// The requests of one shipper that wait, oldest first. Laid out as C does, for controllers that
+// keep a book.
 #[repr(C)]
 pub struct Line {
-    pub numbers: [u32; Book::PLACES],
+    pub numbers: [u32; Line::WIDTH],
     pub count: usize,
+}
+
+impl Line {
+    // As many numbers as a book has places, so that no agreement about places changes the record.
+    pub const WIDTH: usize = 16;
 }
 
 // The lines of shippers 0 to 3, and the shipper whose request was handed out last.
@@ -38,20 +42,22 @@ pub struct Book {
 }
 
 impl Book {
+    // For all shippers together.
     pub const PLACES: usize = 16;
 
     pub const RESERVE: usize = 2;
 
     pub const CEILING: usize = 8;
 
-    pub const COMMONS: usize = 8;
+    // The places that are nobody's reserve.
+    pub const COMMONS: usize = Book::PLACES - 4 * Book::RESERVE;
 
     // A new book has 3 as last served: the first turn is shipper 0's.
     pub fn empty() -> Book
         ensures { λ r. ⌜ r ≡ emptyBook ⌝ }
     {
         let line = Line {
-            numbers: [0; Book::PLACES],
+            numbers: [0; Line::WIDTH],
             count: 0,
         };
         Book {
@@ -85,11 +91,12 @@ pub struct Taken {
 
 // The book with the request waiting behind those of its own shipper.
 fn enter(book: Book, shipper: u8, number: u32) -> Book
-    requires { ⌜ requestOf book shipper number ≡ done tt ⌝ }
-    ensures { λ r. ⌜ r ≡ put book shipper (waitingOf book shipper ++ (number ∷ [])) (book .last) ⌝ }
+    requires { ⌜ requestFault book shipper number ≡ fine ⌝ }
+    ensures { λ r. ⌜ r ≡ entered book shipper number ⌝ }
 {
     let at = shipper as usize;
-    let longer = queue::lengthen(book.lines[at], number);
+    let line = book.lines[at];
+    let longer = queue::lengthen(line, number);
     let mut next = book;
     next.lines[at] = longer;
     next
@@ -99,26 +106,31 @@ fn enter(book: Book, shipper: u8, number: u32) -> Book
 pub fn request(book: Book, shipper: u8, number: u32) -> Changed
     ensures { λ r. ⌜ (toldChange (r .answer) ≡ requestOf book shipper number) × (r .book ≡ afterRequest book shipper number) ⌝ }
 {
-    let answer = judge::judge_request(book, shipper, number);
-    match answer {
-        Change::Made => Changed {
+    let verdict = judge::judge_request(book, shipper, number);
+    match verdict {
+        Verdict::Fine => Changed {
             book: enter(book, shipper, number),
-            answer,
+            answer: Change::Made,
         },
-        Change::Refused(_) => Changed { book, answer },
+        Verdict::Refused(refusal) => Changed {
+            book,
+            answer: Change::Refused(refusal),
+        },
     }
 }
 
-// The book without the request; the rest of its shipper's wait in their order.
-fn remove(book: Book, shipper: u8, number: u32) -> Book
-    requires { ⌜ withdrawalOf book shipper number ≡ done tt ⌝ }
-    ensures { λ r. ⌜ r ≡ put book shipper (without number (waitingOf book shipper)) (book .last) ⌝ }
+// The book without the request, and with this last served; the rest of its shipper's wait in their
+// order.
+fn remove(book: Book, shipper: u8, number: u32, last: u8) -> Book
+    requires { ⌜ (isSound book ≡ true) × (shipper < 4) × (isOneOf number (waitingOf book shipper) ≡ true) ⌝ }
+    ensures { λ r. ⌜ r ≡ removed book shipper number last ⌝ }
 {
     let at = shipper as usize;
     let line = book.lines[at];
     let shorter = queue::shorten(line, queue::place(line, 0, number));
     let mut next = book;
     next.lines[at] = shorter;
+    next.last = last;
     next
 }
 
@@ -126,27 +138,17 @@ fn remove(book: Book, shipper: u8, number: u32) -> Book
 pub fn withdraw(book: Book, shipper: u8, number: u32) -> Changed
     ensures { λ r. ⌜ (toldChange (r .answer) ≡ withdrawalOf book shipper number) × (r .book ≡ afterWithdrawal book shipper number) ⌝ }
 {
-    let answer = judge::judge_withdrawal(book, shipper, number);
-    match answer {
-        Change::Made => Changed {
-            book: remove(book, shipper, number),
-            answer,
+    let verdict = judge::judge_withdrawal(book, shipper, number);
+    match verdict {
+        Verdict::Fine => Changed {
+            book: remove(book, shipper, number, book.last),
+            answer: Change::Made,
         },
-        Change::Refused(_) => Changed { book, answer },
+        Verdict::Refused(refusal) => Changed {
+            book,
+            answer: Change::Refused(refusal),
+        },
     }
-}
-
-// The book without the oldest request of a shipper, who is now the last served.
-fn serve(book: Book, shipper: u8) -> Book
-    requires { ⌜ (isSound book ≡ true) × (shipper < 4) × (hasAny book shipper ≡ true) ⌝ }
-    ensures { λ r. ⌜ r ≡ put book shipper (drop 1 (waitingOf book shipper)) shipper ⌝ }
-{
-    let at = shipper as usize;
-    let shorter = queue::shorten(book.lines[at], 0);
-    let mut next = book;
-    next.lines[at] = shorter;
-    next.last = shipper;
-    next
 }
 
 // The prover is free: the next request is handed out.
@@ -155,8 +157,8 @@ pub fn take(book: Book) -> Taken
 {
     let answer = judge::judge_take(book);
     match answer {
-        Handout::Handed(shipper, _) => Taken {
-            book: serve(book, shipper),
+        Handout::Handed(shipper, number) => Taken {
+            book: remove(book, shipper, number, shipper),
             answer,
         },
         Handout::Refused(_) => Taken { book, answer },

@@ -1,20 +1,21 @@
 // A line on its own: where a number waits, a number added at the end, a place given up.
 ghost use mathlib.Core.Path.{_≡_};
-ghost use mathlib.Core.Bool.{true};
+ghost use mathlib.Core.Bool.{true, false};
 ghost use mathlib.Core.List.{[], _∷_, _++_};
 ghost use Prim.Native.Nat.{_+_, _<_, _≤_};
-ghost use lib.ListN.{drop};
-ghost use Rattle.book.specs.Line.{waiting, lineOf, areZero};
-ghost use Rattle.book.specs.Place.{placeOf, givenUp};
-use crate::Book;
+ghost use lib.ListN.{take, drop, getD};
+ghost use Rattle.octets.specs.Lists.{isOneOf};
+ghost use Rattle.octets.specs.Octets.{zeroBetween};
+ghost use Rattle.book.specs.Line.{width, waiting, lineOf};
 use crate::Line;
 
-const LAST_PLACE: usize = Book::PLACES - 1;
+const LAST_PLACE: usize = Line::WIDTH - 1;
 
-// The place of a number among those waiting at or after a place; the count where it isn't there.
+// The first place from a place on that holds the number; the count where none does.
 pub(crate) fn place(line: Line, from: usize, number: u32) -> usize
-    requires { ⌜ (line .count ≤ 16) × (from ≤ line .count) ⌝ }
-    ensures { λ r. ⌜ r ≡ from + placeOf number (drop from (waiting line)) ⌝ }
+    requires { ⌜ (line .count ≤ width) × (from ≤ line .count) ⌝ }
+    ensures { λ r.
+        ⌜ (from ≤ r) × (r ≤ line .count) × (isOneOf number (drop from (take r (line .numbers))) ≡ false) × (r < line .count → getD (line .numbers) r 0 ≡ number) ⌝ }
 {
     let numbers = line.numbers;
     let count = line.count;
@@ -30,7 +31,7 @@ pub(crate) fn place(line: Line, from: usize, number: u32) -> usize
 
 // The line with one more number waiting behind the others.
 pub(crate) fn lengthen(line: Line, number: u32) -> Line
-    requires { ⌜ (line .count < 16) × (areZero (drop (line .count) (line .numbers)) ≡ true) ⌝ }
+    requires { ⌜ (line .count < width) × (zeroBetween (line .numbers) (line .count) width ≡ true) ⌝ }
     ensures { λ r. ⌜ r ≡ lineOf (waiting line ++ (number ∷ [])) ⌝ }
 {
     let count = line.count;
@@ -42,11 +43,11 @@ pub(crate) fn lengthen(line: Line, number: u32) -> Line
 
 // The line without the number at a place: those behind it move up, and a zero comes in at the end.
 pub(crate) fn shorten(line: Line, at: usize) -> Line
-    requires { ⌜ (line .count ≤ 16) × (at < line .count) × (areZero (drop (line .count) (line .numbers)) ≡ true) ⌝ }
-    ensures { λ r. ⌜ r ≡ lineOf (givenUp at (waiting line)) ⌝ }
+    requires { ⌜ (line .count ≤ width) × (at < line .count) × (zeroBetween (line .numbers) (line .count) width ≡ true) ⌝ }
+    ensures { λ r. ⌜ r ≡ lineOf (take at (waiting line) ++ drop (at + 1) (waiting line)) ⌝ }
 {
     let numbers = line.numbers;
-    let mut rest = [0u32; Book::PLACES];
+    let mut rest = [0u32; Line::WIDTH];
     let mut i = 0;
     while i < LAST_PLACE {
         rest[i] = if i < at { numbers[i] } else { numbers[i + 1] };

@@ -2,9 +2,9 @@
 ghost use mathlib.Core.Path.{_≡_};
 ghost use mathlib.Core.Bool.{true};
 ghost use Prim.Native.Nat.{_-_, _≤_};
-ghost use lib.ListN.{drop};
+ghost use Rattle.octets.specs.Octets.{zeroBetween};
 ghost use Rattle.book.specs.Figures.{commonsUsed, reserve};
-ghost use Rattle.book.specs.Line.{waiting, areProper, areZero};
+ghost use Rattle.book.specs.Line.{width, waiting, areProper};
 ghost use Rattle.book.specs.Sound.{isLineSound, areLinesSound, isSound};
 use crate::Book;
 use crate::Line;
@@ -13,7 +13,7 @@ use crate::queue;
 
 // Waiting numbers are non-zero and differ within a shipper.
 fn are_proper(line: Line) -> bool
-    requires { ⌜ line .count ≤ 16 ⌝ }
+    requires { ⌜ line .count ≤ width ⌝ }
     ensures { λ r. ⌜ r ≡ areProper (waiting line) ⌝ }
 {
     let numbers = line.numbers;
@@ -34,12 +34,12 @@ fn are_proper(line: Line) -> bool
 
 // Unused places are zero.
 fn are_unused_zero(line: Line) -> bool
-    requires { ⌜ line .count ≤ 16 ⌝ }
-    ensures { λ r. ⌜ r ≡ areZero (drop (line .count) (line .numbers)) ⌝ }
+    requires { ⌜ line .count ≤ width ⌝ }
+    ensures { λ r. ⌜ r ≡ zeroBetween (line .numbers) (line .count) width ⌝ }
 {
     let numbers = line.numbers;
     let mut i = line.count;
-    while i < Book::PLACES {
+    while i < Line::WIDTH {
         if numbers[i] != 0 {
             return false;
         }
@@ -49,7 +49,7 @@ fn are_unused_zero(line: Line) -> bool
 }
 
 fn is_line_sound(line: Line, ceiling: usize) -> bool
-    requires { ⌜ ceiling ≤ 16 ⌝ }
+    requires { ⌜ ceiling ≤ width ⌝ }
     ensures { λ r. ⌜ r ≡ isLineSound ceiling line ⌝ }
 {
     if ceiling < line.count {

@@ -1,7 +1,6 @@
 // The entries of the kept book: it goes in by value, and comes back with the place after the answer.
 ghost use Prim.Native.Nat.{_<_};
 use crate::answers;
-use crate::entries::Answered;
 use crate::operands;
 use book::Book;
 use book::Change;
@@ -10,63 +9,53 @@ use book::Handout;
 use book::Line;
 use refusals::Refusal;
 
-fn say_change(answer: Change, out: &mut [u8]) -> usize {
-    match answer {
-        Change::Made => answers::say_ok(out),
-        Change::Refused(refusal) => answers::refuse(refusal, out),
-    }
+// The book as it is kept on, and how many bytes of `out` are the answer.
+pub(crate) struct Answered {
+    pub(crate) book: Book,
+    pub(crate) length: usize,
 }
 
-// The line's name says which it is: a request, or else a withdrawal.
-fn change(line: &[u8], kept: Book) -> Changed {
-    let shipper = operands::u8_at(line, 1);
-    let number = operands::u32_at(line, 2);
-    if check::same(words::word(line, 0), b"request") {
-        book::request(kept, shipper, number)
-    } else {
-        book::withdraw(kept, shipper, number)
-    }
+fn say_done(out: &mut [u8]) -> usize {
+    words::write_text(b"ok", out, 0)
 }
 
-pub(crate) fn answer_change(line: &[u8], kept: Book, out: &mut [u8]) -> Answered {
-    if !operands::has_form(line, b"bw") {
-        return Answered {
-            book: kept,
-            length: answers::say_bad(out),
-        };
-    }
-    let done = change(line, kept);
-    let next = done.book;
+fn say_change(done: Changed, out: &mut [u8]) -> Answered {
+    let book = done.book;
     let answer = done.answer;
-    Answered {
-        book: next,
-        length: say_change(answer, out),
-    }
+    let length = match answer {
+        Change::Made => say_done(out),
+        Change::Refused(refusal) => answers::refuse(refusal, out),
+    };
+    Answered { book, length }
+}
+
+fn answer_request(line: &[u8], kept: Book, out: &mut [u8]) -> Answered {
+    say_change(
+        book::request(kept, operands::u8_at(line, 1), operands::u32_at(line, 2)),
+        out,
+    )
+}
+
+fn answer_withdraw(line: &[u8], kept: Book, out: &mut [u8]) -> Answered {
+    say_change(
+        book::withdraw(kept, operands::u8_at(line, 1), operands::u32_at(line, 2)),
+        out,
+    )
 }
 
 fn say_handout(answer: Handout, out: &mut [u8]) -> usize {
     match answer {
-        Handout::Handed(shipper, number) => {
-            let at = answers::say_ok(out);
-            let next = answers::add_number(shipper as u64, out, at);
-            answers::add_number(number as u64, out, next)
-        }
+        Handout::Handed(shipper, number) => answers::say_ok(&[shipper as u64, number as u64], out),
         Handout::Refused(refusal) => answers::refuse(refusal, out),
     }
 }
 
-pub(crate) fn answer_take(line: &[u8], kept: Book, out: &mut [u8]) -> Answered {
-    if !operands::has_form(line, b"") {
-        return Answered {
-            book: kept,
-            length: answers::say_bad(out),
-        };
-    }
+fn answer_take(kept: Book, out: &mut [u8]) -> Answered {
     let done = book::take(kept);
-    let next = done.book;
+    let book = done.book;
     let answer = done.answer;
     Answered {
-        book: next,
+        book,
         length: say_handout(answer, out),
     }
 }
@@ -75,11 +64,11 @@ fn wide(n: u32) -> u64 {
     n as u64
 }
 
-// A shipper's count and its waiting numbers.
+// A shipper's count and its waiting numbers, as they stand behind one another.
 fn add_waiting(line: Line, out: &mut [u8], from: usize) -> usize {
     let numbers = line.numbers;
     let count = line.count;
-    let mut at = answers::add_number(count as u64, out, from);
+    let mut at = answers::add_numbers(&[count as u64], out, from);
     let mut i = 0;
     while i < 16 {
         at = answers::add_wanted(i < count, wide(numbers[i]), out, at);
@@ -92,19 +81,13 @@ fn say_book(kept: Book, out: &mut [u8]) -> usize {
     if !book::is_sound(kept) {
         return answers::refuse(Refusal::BookNotSound, out);
     }
-    let at = answers::say_ok(out);
-    let last = answers::add_number(kept.last as u64, out, at);
-    let first = add_waiting(kept.lines[0], out, last);
-    let second = add_waiting(kept.lines[1], out, first);
-    let third = add_waiting(kept.lines[2], out, second);
-    add_waiting(kept.lines[3], out, third)
-}
-
-pub(crate) fn answer_book(line: &[u8], kept: Book, out: &mut [u8]) -> usize {
-    if !operands::has_form(line, b"") {
-        return answers::say_bad(out);
+    let mut at = answers::say_ok(&[kept.last as u64], out);
+    let mut shipper = 0;
+    while shipper < 4 {
+        at = add_waiting(kept.lines[shipper], out, at);
+        shipper += 1;
     }
-    say_book(kept, out)
+    at
 }
 
 // A shipper's sixteen places, from word 6 on, and its count, from word 2 on.
@@ -133,33 +116,24 @@ fn book_at(line: &[u8]) -> Book {
     }
 }
 
-pub(crate) fn answer_load(line: &[u8], kept: Book, out: &mut [u8]) -> Answered {
-    if !operands::has_form(
-        line,
-        b"bbbbbwwwwwwwwwwwwwwwwwwwwwwwwwwwwwwwwwwwwwwwwwwwwwwwwwwwwwwwwwwwwwwww",
-    ) {
-        return Answered {
-            book: kept,
-            length: answers::say_bad(out),
-        };
-    }
-    let given = book_at(line);
+fn replace(given: Book, out: &mut [u8]) -> Answered {
     Answered {
         book: given,
-        length: answers::say_ok(out),
+        length: say_done(out),
     }
 }
 
-pub(crate) fn answer_empty(line: &[u8], kept: Book, out: &mut [u8]) -> Answered {
-    if !operands::has_form(line, b"") {
-        return Answered {
+// By the entry's place in the table.
+pub(crate) fn answer(entry: usize, line: &[u8], kept: Book, out: &mut [u8]) -> Answered {
+    match entry {
+        0 => answer_request(line, kept, out),
+        1 => answer_withdraw(line, kept, out),
+        2 => answer_take(kept, out),
+        3 => replace(book_at(line), out),
+        4 => replace(Book::empty(), out),
+        _ => Answered {
             book: kept,
-            length: answers::say_bad(out),
-        };
-    }
-    let empty = Book::empty();
-    Answered {
-        book: empty,
-        length: answers::say_ok(out),
+            length: say_book(kept, out),
+        },
     }
 }

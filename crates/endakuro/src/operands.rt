@@ -33,9 +33,10 @@ fn is_places(word: &[u8]) -> bool {
     check::same(word, b"4") | check::same(word, b"6")
 }
 
-// A word is of its operand's type: b u8, h u16, w u32, s i16, p places, x bytes, f single.
+// A word is of its operand's type: b u8, h u16, w u32, s i16, p places, x bytes, f single; n any, a name.
 fn is_operand(word: &[u8], kind: u8) -> bool {
     match kind {
+        b'n' => true,
         b'b' => is_number(numerals::read_number(word, 255)),
         b'h' => is_number(numerals::read_number(word, 65535)),
         b'w' => is_number(numerals::read_number(word, 4294967295)),
@@ -47,14 +48,14 @@ fn is_operand(word: &[u8], kind: u8) -> bool {
     }
 }
 
-// As many operands as kinds, each of its kind.
+// As many words as kinds, each of its kind.
 pub(crate) fn has_form(line: &[u8], kinds: &[u8]) -> bool {
-    if words::count_words(line) != kinds.len() + 1 {
+    if words::count_words(line) != kinds.len() {
         return false;
     }
     let mut i = 0;
     while i < kinds.len() {
-        if !is_operand(words::word(line, i + 1), kinds[i]) {
+        if !is_operand(words::word(line, i), kinds[i]) {
             return false;
         }
         i += 1;

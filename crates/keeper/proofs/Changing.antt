@@ -132,7 +132,8 @@ module _ (B : Beside) where
               → ent 𝓤 (sep 𝓤 (A .obs γ (T.the-row .coded .code (B .book r))) (sep 𝓤 (A .bor κ (Body (mem T.the-row) b o γ)) (A .lft κ q))) (Post (answer-val B (B .answer r)))
           exits r e is =
               qed W (‵ (fobs γ (T.the-row .coded .code (B .book r))) ∷ ‵ (fbor κ (Body (mem T.the-row) b o γ)) ∷ ‵ (flft κ q) ∷ []) ∵
-              suffices ! _ (ends-at 𝓤 H A in-place stayed (place-clauses Ensured) W (((κ, tt), (q, tt), tt, x, at), tt) (answer-val B (B .answer r)) (B .answer r) (B .book r, (tt, (tt, tt))) (tt, (tt, (tt, tt)))) $ holds ! (follows (κ, tt) x (B .answer r) (atExit in-place (κ, tt) x (B .book r, (tt, (tt, tt)))) e) $
+              suffices ! _ (ends-at 𝓤 H A in-place stayed (place-clauses Ensured) W (((κ, tt), (q, tt), tt, x, at), tt) (answer-val B (B .answer r)) (B .answer r) (B .book r, (tt, (tt, tt))) (tt, (tt, (tt, tt)))) $
+              holds ! (follows (κ, tt) x (B .answer r) (atExit in-place (κ, tt) x (B .book r, (tt, (tt, tt)))) e) $
               nothing ! $ move ! (3 ∷ 0 ∷ []) $ join ! $ frame ! $ feqI ! (List Val) (vptr b o ∷ []) (vptr b o ∷ []) refl $ fjoin3 ! $
               numbers ! s n s-fits n-fits $ move ! (1 ∷ 0 ∷ []) $ fjoin ! $
               owned ! (answer-row B) (Is (answer-row B)) (makes B 𝓤 H A) (B .answer r) _ is $ move ! (1 ∷ 0 ∷ []) $ done !
@@ -164,7 +165,8 @@ module _ (B : Beside) where
                 land ! (from ! (stop !)) (init ! 10 refl (typed B 𝓤 H A W r w is .0)) $
                 rewrite ! 10 (λ (u : Val). ‵ (fat fullShare (result-mir B) l₄ 0 u)) (tells B r w is) refl $
                 -- [what the result owns; the book's cell; what the old book owns; the open borrow; obs; auth; true; the numbers'; _5; …; _4; …; _3; …; _2; …; _1; …; room for _0; …]
-                assigns ! (of-opd ! (load ! (from ! (fld ! refl (stop !))) (look-in ! 10 (sub ! 0 refl (whole !))))) (from ! (hop ! (look ! 16 refl) (stop !))) (store-raw ! 1 refl (LL.lawful T.the-type T′.the-laws 𝓤 H A W .typed (B .book r) _ (book-is B r w is) .0)) $
+                assigns ! (of-opd ! (load ! (from ! (fld ! refl (stop !))) (look-in ! 10 (sub ! 0 refl (whole !))))) (from ! (hop ! (look ! 16 refl) (stop !)))
+                (store-raw ! 1 refl (LL.lawful T.the-type T′.the-laws 𝓤 H A W .typed (B .book r) _ (book-is B r w is) .0)) $
                 assigns ! (of-opd ! (load ! (from ! (fld ! refl (stop !))) (look-in ! 10 (sub ! 1 refl (whole !))))) (from ! (stop !)) (init ! 18 refl (answer-typed B 𝓤 H A W (B .answer r) _ (answer-is B r w is) .0)) $
                 -- the borrow is closed at the book that came back
                 drop ! $ closes-book ! tt h (B .book r) b o (book-is B r w is) $
@@ -174,7 +176,8 @@ module _ (B : Beside) where
 
         module _ (W : Given 𝓤 H A) (callee : Name) where
           walks : (C : Calls 𝓤 H) (Λ : Loops 𝓤 H) → FmC 𝓤 H (W .laws) C → Triple 𝓤 (C callee) Callee → Walks 𝓤 H A in-place stayed (WpFn 𝓤 H C Λ (function callee)) (place-clauses Ensured)
-          walks C Λ fm known = walked 𝓤 H A in-place stayed (place-clauses Ensured) (WpFn 𝓤 H C Λ (function callee)) (λ κs. (ptr-vals, (uint-vals w8, (uint-vals w32, tt)))) (λ κs. (mut-tells (named 0) (κs .0) T.the-row, (uint-tells w8, (uint-tells w32, tt))))
+          walks C Λ fm known = walked 𝓤 H A in-place stayed (place-clauses Ensured) (WpFn 𝓤 H C Λ (function callee)) (λ κs. (ptr-vals, (uint-vals w8, (uint-vals w32, tt))))
+              (λ κs. (mut-tells (named 0) (κs .0) T.the-row, (uint-tells w8, (uint-tells w32, tt))))
               (λ κs qs bounds a g are. via 𝓤 _ (fst∗ 𝓤 _ (emp 𝓤)) (walk W (κs .0) (qs .0) (a .0 .ptr .0) (a .0 .ptr .1) (a .0 .name) (a .0 .now) (a .1 .0) (a .1 .1 .0) (are .1 .0 .1) (are .1 .1 .0 .1) callee C Λ fm known))
 
           goes : AllGo 𝓤 H A W 1 (in-place .signature .params) (in-place .kept) stayed

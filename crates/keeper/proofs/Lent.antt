@@ -33,7 +33,8 @@ module _ {M : Type 1} {𝓤 : URA M} {H : Heap 𝓤} {A : Atoms 𝓤} {K : Type 
   -- [obs; the borrow; the token] to [the book's cell; what the book owns; the open borrow; obs; auth]
   pub opens-book : K → Soaks G → {κ : Lft} {q : Share} {γ : GName} (h : Book) (b o : ℕ)
       → (Is T.the-row h (book-val h ∷ [])
-      → Seq K W (‵ (cellAt fullShare (T.the-row .mir) (book-val h ∷ []) b o) ∷ ‵ (T.the-row .own h (book-val h ∷ [])) ∷ ‵ (fobor κ q (Body (mem T.the-row) b o γ)) ∷ ‵ (fobs γ (T.the-row .coded .code h)) ∷ ‵ (fauth γ (T.the-row .coded .code h)) ∷ Γ) G)
+      → Seq K W (‵ (cellAt fullShare (T.the-row .mir) (book-val h ∷ []) b o) ∷ ‵ (T.the-row .own h (book-val h ∷ [])) ∷ ‵ (fobor κ q (Body (mem T.the-row) b o γ))
+      ∷ ‵ (fobs γ (T.the-row .coded .code h)) ∷ ‵ (fauth γ (T.the-row .coded .code h)) ∷ Γ) G)
       → Seq K W (‵ (fobs γ (T.the-row .coded .code h)) ∷ ‵ (fbor κ (Body (mem T.the-row) b o γ)) ∷ ‵ (flft κ q) ∷ Γ) G
   opens-book t z h b o k =
       opens t z T.the-row {h = h} b o (λ vs. spelt t T.the-row (Is T.the-row) (shows 𝓤 H A T.the-row) (LL.vals T.the-type T′.the-laws) (LL.tells T.the-type T′.the-laws) fullShare h vs b o $

@@ -127,7 +127,8 @@ module _ (B : Beside) where
               → ent 𝓤 (sep 𝓤 (A .obs γ (T.the-row .coded .code (B .book r))) (sep 𝓤 (A .bor κ (Body (mem T.the-row) b o γ)) (A .lft κ q))) (Post (answer-val B (B .answer r)))
           exits r e is =
               qed W (‵ (fobs γ (T.the-row .coded .code (B .book r))) ∷ ‵ (fbor κ (Body (mem T.the-row) b o γ)) ∷ ‵ (flft κ q) ∷ []) ∵
-              suffices ! _ (ends-at 𝓤 H A in-place stayed (place-clauses Ensured) W (((κ, tt), (q, tt), tt, x, at), tt) (answer-val B (B .answer r)) (B .answer r) (B .book r, tt) (tt, tt)) $ holds ! (follows (κ, tt) x (B .answer r) (atExit in-place (κ, tt) x (B .book r, tt)) e) $
+              suffices ! _ (ends-at 𝓤 H A in-place stayed (place-clauses Ensured) W (((κ, tt), (q, tt), tt, x, at), tt) (answer-val B (B .answer r)) (B .answer r) (B .book r, tt) (tt, tt)) $
+              holds ! (follows (κ, tt) x (B .answer r) (atExit in-place (κ, tt) x (B .book r, tt)) e) $
               nothing ! $ move ! (3 ∷ 0 ∷ []) $ join ! $ frame ! $ feqI ! (List Val) (vptr b o ∷ []) (vptr b o ∷ []) refl $ fjoin3 ! $
               nothing ! $ move ! (1 ∷ 0 ∷ []) $ fjoin ! $
               owned ! (answer-row B) (Is (answer-row B)) (makes B 𝓤 H A) (B .answer r) _ is $ move ! (1 ∷ 0 ∷ []) $ done !
@@ -158,7 +159,8 @@ module _ (B : Beside) where
                 land ! (from ! (stop !)) (init ! 10 refl (typed B 𝓤 H A W r w is .0)) $
                 rewrite ! 10 (λ (u : Val). ‵ (fat fullShare (result-mir B) l₂ 0 u)) (tells B r w is) refl $
                 -- [what the result owns; the book's cell; what the old book owns; the open borrow; obs; auth; true; true; _3; …; _2; …; _1; …; room for _0; …]
-                assigns ! (of-opd ! (load ! (from ! (fld ! refl (stop !))) (look-in ! 10 (sub ! 0 refl (whole !))))) (from ! (hop ! (look ! 12 refl) (stop !))) (store-raw ! 1 refl (LL.lawful T.the-type T′.the-laws 𝓤 H A W .typed (B .book r) _ (book-is B r w is) .0)) $
+                assigns ! (of-opd ! (load ! (from ! (fld ! refl (stop !))) (look-in ! 10 (sub ! 0 refl (whole !))))) (from ! (hop ! (look ! 12 refl) (stop !)))
+                (store-raw ! 1 refl (LL.lawful T.the-type T′.the-laws 𝓤 H A W .typed (B .book r) _ (book-is B r w is) .0)) $
                 assigns ! (of-opd ! (load ! (from ! (fld ! refl (stop !))) (look-in ! 10 (sub ! 1 refl (whole !))))) (from ! (stop !)) (init ! 14 refl (answer-typed B 𝓤 H A W (B .answer r) _ (answer-is B r w is) .0)) $
                 -- the borrow is closed at the book that came back
                 drop ! $ closes-book ! tt h (B .book r) b o (book-is B r w is) $

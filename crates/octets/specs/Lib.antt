@@ -1,3 +1,4 @@
 pub mod Octets
 pub mod FirstToLast
 pub mod Records
+pub mod Lists

@@ -6,6 +6,7 @@
 use mathlib.Core.Path.{_≡_, refl, ap}
 use mathlib.Core.Bool.{Bool, true, not, _&&_}
 use mathlib.Core.List.{List, [], _∷_}
+use mathlib.Core.Option.{Option, none, some}
 use Prim.Native.Nat.{ℕ, _+_, _<_}
 use native.Mathlib.Omega.{arith}
 use lib.Dec.{leb, ltb, eqb}
@@ -45,13 +46,13 @@ use Rattle.ticket.specs.Answers.{ticketOf}
 use Rattle.ticket.specs.declared.Ticket.{Ticket}
 use Rattle.live.specs.Live.{wholeOf, psiOk, liveOf}
 use Rattle.live.proofs.Answers.{singleFault, live-judged}
-use Rattle.book.specs.Line.{isIn}
+use Rattle.octets.specs.Lists.{isOneOf}
 use Rattle.book.specs.Figures.{shippers, ceiling, waitingOf, has}
 use Rattle.book.specs.Sound.{isSound}
-use Rattle.book.specs.Calls.{callFault, hasRoom, requestFault, requestOf, afterRequest, withdrawalFault, withdrawalOf, afterWithdrawal, anyWaits, takeFault, takeOf, afterTake, leftBy as bookLeftBy}
+use Rattle.book.specs.Calls.{callFault, hasRoom, entryFault, requestFault, requestOf, afterRequest, withdrawalFault, withdrawalOf, afterWithdrawal, nextTurn, handedOut, takeOf, afterTake}
 use Rattle.book.specs.declared.Book.{Book}
 use lib.Ieee.Scale.{finite}
-use Rattle.promises.specs.Ending.{isOneOf, markedOf, recordOk, refusalOk, Ends}
+use Rattle.promises.specs.Ending.{markedOf, recordOk, refusalOk, Ends}
 use Rattle.promises.proofs.Endings.{Finds, by-demand, by-demandAt, by-orElse, by-scan, by-unless, by-judged, by-nine, as-told}
 
 -- ---- the factors: 3 for a metal or pipe, 5 for a temperature, pressure or F; no records are handed over
@@ -200,21 +201,26 @@ call-finds book shipper number more =
     by-orElse (by-demand (isSound book) 20 refl) (by-orElse (by-demand (ltb shipper shippers) 21 refl) (by-demand (not (eqb number 0)) 22 refl))
 
 pub request-ends : (book : Book) (shipper number : ℕ) → Ends (20 ∷ 21 ∷ 22 ∷ 23 ∷ 24 ∷ 25 ∷ []) 0 0 (requestOf book shipper number)
-unfolding requestOf requestFault isOneOf markedOf recordOk refusalOk
+unfolding requestOf requestFault entryFault isOneOf markedOf recordOk refusalOk
 request-ends book shipper number =
     by-judged _
     (by-orElse (call-finds book shipper number (23 ∷ 24 ∷ 25 ∷ []))
-    (by-orElse (by-demand (not (isIn number (waitingOf book shipper))) 23 refl)
+    (by-orElse (by-demand (not (isOneOf number (waitingOf book shipper))) 23 refl)
     (by-orElse (by-demand (ltb (has book shipper) (ceiling book shipper)) 24 refl) (by-demand (hasRoom book shipper) 25 refl))))
 
 pub withdrawal-ends : (book : Book) (shipper number : ℕ) → Ends (20 ∷ 21 ∷ 22 ∷ 26 ∷ []) 0 0 (withdrawalOf book shipper number)
 unfolding withdrawalOf withdrawalFault isOneOf markedOf recordOk refusalOk
 withdrawal-ends book shipper number =
-    by-judged _ (by-orElse (call-finds book shipper number (26 ∷ [])) (by-demand (isIn number (waitingOf book shipper)) 26 refl))
+    by-judged _ (by-orElse (call-finds book shipper number (26 ∷ [])) (by-demand (isOneOf number (waitingOf book shipper)) 26 refl))
+
+handed-ends : (book : Book) (next : Option ℕ) → Ends (20 ∷ 27 ∷ []) 0 0 (handedOut book next)
+unfolding handedOut isOneOf markedOf recordOk refusalOk
+handed-ends book none = record { gives = refl }
+handed-ends book (some turn) = record { gives = tt }
 
 pub take-ends : (book : Book) → Ends (20 ∷ 27 ∷ []) 0 0 (takeOf book)
-unfolding takeOf takeFault isOneOf markedOf recordOk refusalOk
-take-ends book = by-judged _ (by-orElse (by-demand (isSound book) 20 refl) (by-demand (anyWaits book) 27 refl))
+unfolding takeOf isOneOf markedOf recordOk refusalOk
+take-ends book = by-unless (by-demand (isSound book) 20 refl) (handed-ends book (nextTurn book))
 
 -- ---- 'A refusal writes nothing into a lent buffer': `leftBy t found` is the buffer that the writer and the job leave where they tell t
 
@@ -222,17 +228,15 @@ pub left-as-found : {A B : Type 0} {t : Told A} {number at : ℕ} (leaves : A �
 left-as-found {A} leaves found is = ap (λ (t : Told A). leftBy t leaves found) is
 
 -- 'and hands the book of waiting requests back unchanged'
-book-as-found : {A : Type 0} {t : Told A} {number at : ℕ} (changed book : Book) → t ≡ refused number at → bookLeftBy t changed book ≡ book
-book-as-found {A} changed book is = ap (λ (t : Told A). bookLeftBy t changed book) is
 
 pub request-leaves-book : (book : Book) (shipper x : ℕ) {number at : ℕ} → requestOf book shipper x ≡ refused number at → afterRequest book shipper x ≡ book
 unfolding afterRequest
-request-leaves-book book shipper x is = book-as-found _ book is
+request-leaves-book book shipper x is = left-as-found _ book is
 
 pub withdrawal-leaves-book : (book : Book) (shipper x : ℕ) {number at : ℕ} → withdrawalOf book shipper x ≡ refused number at → afterWithdrawal book shipper x ≡ book
 unfolding afterWithdrawal
-withdrawal-leaves-book book shipper x is = book-as-found _ book is
+withdrawal-leaves-book book shipper x is = left-as-found _ book is
 
 pub take-leaves-book : (book : Book) {number at : ℕ} → takeOf book ≡ refused number at → afterTake book ≡ book
 unfolding afterTake
-take-leaves-book book is = book-as-found _ book is
+take-leaves-book book is = left-as-found _ book is

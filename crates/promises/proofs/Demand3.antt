@@ -5,11 +5,12 @@ use mathlib.Core.Bool.{true, false}
 use mathlib.Core.List.{List}
 use Prim.Native.Nat.{ℕ, _+_, _*_, _≤_, _<_}
 use Rattle.refusals.specs.Told.{done, refused}
-use Rattle.book.specs.Line.{isIn}
-use Rattle.book.specs.Figures.{reserve, ceiling, commons, waitingOf, has, commonsUsed, emptyBook}
+use Rattle.octets.specs.Lists.{isOneOf}
+use Rattle.book.specs.Figures.{overShippers, places, reserve, ceiling, commons, waitingOf, has, held, commonsUsed, emptyBook}
 use Rattle.book.specs.Sound.{isSound}
 use Rattle.book.specs.Calls.{requestOf, afterRequest}
-use Rattle.book.specs.Runs.{Call, run, bookAfter, goesIn, isWithdrawn, isTaken, howOften, times, waits, fateOf, NoLaterThan}
+use Rattle.book.specs.Demand3.{Call, after, afterAll, bookAfter, goesIn, isWithdrawn, isTaken, howOften, times, waits, fateOf, NoLaterThan}
+use Rattle.book.specs.declared.Book.{Book}
 use Rattle.book.proofs.Demand3 as book
 
 -- 'Start from a sound, empty book and make any requests, withdrawals and takes in any order.' It is sound, and stays so:
@@ -22,21 +23,30 @@ sound-always = book.always-sound
 
 module _ (calls : List Call) (shipper : ℕ) (known : shipper < 4) where
   -- 'A shipper with fewer than 2 requests waiting always gets a valid new one in (number not zero, not waiting in its line);'
-  pub fewer-than-2-goes-in : has (bookAfter calls) shipper < 2 → (number : ℕ) → (number ≡ 0 → ⊥) → isIn number (waitingOf (bookAfter calls) shipper) ≡ false
+  pub fewer-than-2-goes-in : has (bookAfter calls) shipper < 2 → (number : ℕ) → (number ≡ 0 → ⊥) → isOneOf number (waitingOf (bookAfter calls) shipper) ≡ false
       → requestOf (bookAfter calls) shipper number ≡ done tt
   unfolding reserve
   fewer-than-2-goes-in few number valid new = book.below-the-reserve-goes-in calls shipper number known few valid new
 
   -- 'one with 2 to 7 is refused it only when the 8 shared places are used up.'
-  pub refused-only-when-8-used : 2 ≤ has (bookAfter calls) shipper → has (bookAfter calls) shipper < 8 → (number : ℕ) → (number ≡ 0 → ⊥) → isIn number (waitingOf (bookAfter calls) shipper) ≡ false
+  pub refused-only-when-8-used : 2 ≤ has (bookAfter calls) shipper → has (bookAfter calls) shipper < 8 → (number : ℕ) → (number ≡ 0 → ⊥) → isOneOf number (waitingOf (bookAfter calls) shipper) ≡ false
       → (n at : ℕ) → requestOf (bookAfter calls) shipper number ≡ refused n at → commonsUsed (bookAfter calls) ≡ 8
-  unfolding reserve ceiling commons
+  unfolding reserve ceiling commons places overShippers
   refused-only-when-8-used many below number valid new = book.refused-only-when-commons-full calls shipper number known many below valid new
 
   -- 'Nobody ever has more than 8 waiting.'
   pub never-more-than-8 : has (bookAfter calls) shipper ≤ 8
   unfolding ceiling
   never-more-than-8 = book.never-above-the-ceiling calls shipper known
+
+-- All four together never have more than the 16 places: not after these calls, and in no sound book at all.
+pub never-more-than-16 : (found : Book) → isSound found ≡ true → held found ≤ 16
+unfolding places
+never-more-than-16 = book.never-above-the-places
+
+-- Every call keeps a sound book sound, also one that came from elsewhere.
+pub sound-after-any-call : (call : Call) (found : Book) → isSound found ≡ true → isSound (after call found) ≡ true
+sound-after-any-call = book.every-call-keeps-soundness
 
 -- A request that went in, and whatever calls come later.
 module _ (calls : List Call) (shipper number : ℕ) (answer : requestOf (bookAfter calls) shipper number ≡ done tt) (later : List Call) where
@@ -50,12 +60,12 @@ module _ (calls : List Call) (shipper number : ℕ) (answer : requestOf (bookAft
   pub at-most-once : howOften (goesIn shipper number) later (afterRequest (bookAfter calls) shipper number) ≡ 0
       → howOften (isTaken shipper number) later (afterRequest (bookAfter calls) shipper number)
       + howOften (isWithdrawn shipper number) later (afterRequest (bookAfter calls) shipper number)
-      + times number (waitingOf (run later (afterRequest (bookAfter calls) shipper number)) shipper) ≡ 1
+      + times number (waitingOf (afterAll later (afterRequest (bookAfter calls) shipper number)) shipper) ≡ 1
   at-most-once = book.once-or-waiting calls shipper number answer later
 
   -- 'and what is neither is waiting still.'
   pub waiting-still : fateOf shipper number later (afterRequest (bookAfter calls) shipper number) ≡ waits
-      → isIn number (waitingOf (run later (afterRequest (bookAfter calls) shipper number)) shipper) ≡ true
+      → isOneOf number (waitingOf (afterAll later (afterRequest (bookAfter calls) shipper number)) shipper) ≡ true
   waiting-still = book.neither-waits-still calls shipper number answer later
 
 -- The same for a number that comes back ('A number may come back once it has left'): all that went in were taken, or withdrawn, or wait.

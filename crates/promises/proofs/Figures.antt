@@ -34,15 +34,16 @@ use Rattle.ticket.specs.Answers.{volumes, ticketOf}
 use Rattle.live.specs.Exact.{numerator, denominator}
 use Rattle.live.specs.Rounding.{awayFromZero}
 use Rattle.live.specs.Live.{wholeOf, singleOf, temperatureOf, psiOk, pressureOf, liveOf}
-use Rattle.book.specs.Line.{places, waiting, lineOf, isIn, areProper, areZero}
-use Rattle.book.specs.Figures.{shippers, reserve, ceiling, commons, lineAt, waitingOf, has, beyond, commonsUsed, put, emptyBook}
+use Rattle.octets.specs.Lists.{isOneOf, areZero}
+use Rattle.octets.specs.Records.{zerosAfter}
+use Rattle.book.specs.Line.{waiting, lineOf, areProper}
+use Rattle.book.specs.Figures.{shippers, overShippers, places, reserve, ceiling, commons, lineAt, waitingOf, has, beyond, commonsUsed, put, emptyBook}
 use Rattle.book.specs.Sound.{isLineSound, isSoundAt, areLinesSound, isSound}
-use Rattle.book.specs.Calls.{callFault, hasRoom, requestFault, requestOf, afterRequest}
-use Rattle.book.proofs.Figures.{sent}
-use Rattle.promises.specs.Figures.{prover, run, fillBytes, fill, six, passes, drawn, ticket, reportOn, Figures, Besides}
+use Rattle.book.specs.Calls.{callFault, hasRoom, entryFault, requestFault, requestOf, entered, afterRequest}
+use Rattle.promises.specs.Figures.{prover, run, fillBytes, fill, six, passes, drawn, ticket, reportOn, sent, Figures, Besides}
 
 pub figures : Figures
-unfolding prover run fillBytes fill six passes drawn ticket reportOn temperatureOk drawProverOk drawMeasureOk pressureOk coefficientOk modulusOk diameterOk wallOk compressibilityOk ctlOk ctdwOk runFactorOk volumeOk pulsesOk kFactorOk runsOk passesOk fillsOk certifiedOk scaleOk readingOk meterFactorOk sedimentOk roundedDiv rounded sumOf numberAt byteAt wordAt longAt signedOf signedAt isZeroAt zeroBetween bytesOf recordsIn areRecords firstToLast placeIf meanOf listed smallest largest qualifies groupAt qualifiesAt firstGroup metalOk pipeOk proverOk liquidOk cplFrom ctsAt cpsAt cplAt combinedAt correctedAt cts cps cpl combined ctsOf cpsOf cplOf sideOk runOk indicatedBy steelCts steelCps correctedBy atProver atMeter figuresFrom runFigures givenFault figuresFault figuresTold workedOf listOf fieldsOf bytesOfReport factorsOk firstOk jobOk reportOk isReport reportOf writeOf readOf fiveAt fillFrom fillAt fillOk unnamedOk follows ruleOk adjusted measureCts proverCts ccts drawnBy fillFigures passCount isOf drawnFor passSum passPressure waterAt correctedVolume passVolume volumesOf barrelsOf baseFrom baseOf recordFault fillFault drawFault fillOf drawOf ticketOk indicated factor gross net volumes ticketOf numerator denominator awayFromZero wholeOf singleOf temperatureOf psiOk pressureOf liveOf ofBits places waiting lineOf isIn areProper areZero shippers reserve ceiling commons lineAt waitingOf has beyond commonsUsed put emptyBook isLineSound isSoundAt areLinesSound isSound callFault hasRoom requestFault requestOf afterRequest sent
+unfolding prover run fillBytes fill six passes drawn ticket reportOn temperatureOk drawProverOk drawMeasureOk pressureOk coefficientOk modulusOk diameterOk wallOk compressibilityOk ctlOk ctdwOk runFactorOk volumeOk pulsesOk kFactorOk runsOk passesOk fillsOk certifiedOk scaleOk readingOk meterFactorOk sedimentOk roundedDiv rounded sumOf numberAt byteAt wordAt longAt signedOf signedAt isZeroAt zeroBetween bytesOf recordsIn areRecords firstToLast placeIf meanOf listed smallest largest qualifies groupAt qualifiesAt firstGroup metalOk pipeOk proverOk liquidOk cplFrom ctsAt cpsAt cplAt combinedAt correctedAt cts cps cpl combined ctsOf cpsOf cplOf sideOk runOk indicatedBy steelCts steelCps correctedBy atProver atMeter figuresFrom runFigures givenFault figuresFault figuresTold workedOf listOf fieldsOf bytesOfReport factorsOk firstOk jobOk reportOk isReport reportOf writeOf readOf fiveAt fillFrom fillAt fillOk unnamedOk follows ruleOk adjusted measureCts proverCts ccts drawnBy fillFigures passCount isOf drawnFor passSum passPressure waterAt correctedVolume passVolume volumesOf barrelsOf baseFrom baseOf recordFault fillFault drawFault fillOf drawOf ticketOk indicated factor gross net volumes ticketOf numerator denominator awayFromZero wholeOf singleOf temperatureOf psiOk pressureOf liveOf ofBits waiting lineOf isOneOf areProper shippers overShippers places reserve ceiling commons lineAt waitingOf has beyond commonsUsed put emptyBook isLineSound isSoundAt areLinesSound isSound hasRoom callFault entryFault requestFault requestOf entered afterRequest sent
 figures = record {
   cts-at-70 = refl;
   cts-at-50 = refl;

@@ -1,17 +1,14 @@
 -- Demand 1: 'it ends with either its result or one number from the table in document 01 .., with the record at fault where there is one.'
 use mathlib.Core.Path.{_≡_}
-use mathlib.Core.Bool.{Bool, true, false, _&&_, _||_, cond}
+use mathlib.Core.Bool.{Bool, true, _&&_, cond}
 use mathlib.Core.List.{List, [], _∷_}
 use Prim.Native.Nat.{ℕ}
 use lib.Dec.{eqb}
+use Rattle.octets.specs.Lists.{isOneOf}
 use Rattle.ranges.specs.Within.{within}
 use Rattle.refusals.specs.Table.{Row, plain, starred, rowOf, cases}
 use Rattle.refusals.specs.Told.{Told, done, refused}
 use Rattle.refusals.specs.declared.Refusal.{Refusal}
-
-unfoldable pub isOneOf : ℕ → List ℕ → Bool
-isOneOf number [] = false
-isOneOf number (first ∷ rest) = eqb number first || isOneOf number rest
 
 -- 01, 'Numbers given back': those marked (*), read from the table
 abbrev pub marked : Row → List ℕ → List ℕ

@@ -4,7 +4,7 @@ use mathlib.Core.Path.{_≡_}
 use mathlib.Core.Bool.{true, false}
 use mathlib.Core.List.{List, [], _∷_, _++_}
 use mathlib.Core.Option.{some}
-use Prim.Native.Nat.{ℕ, _+_}
+use Prim.Native.Nat.{ℕ, zero, suc, _+_}
 use lib.IntN.{pos, negℤ}
 use lib.Ieee.{nan, binary32, ofBits}
 use lib.ListN.{length, replicate}
@@ -27,8 +27,8 @@ use Rattle.ticket.specs.Answers.{ticketOf}
 use Rattle.ticket.specs.declared.Ticket.{Ticket}
 use Rattle.live.specs.Live.{temperatureOf, liveOf}
 use Rattle.book.specs.Figures.{emptyBook}
-use Rattle.book.specs.Calls.{requestOf}
-use Rattle.book.proofs.Figures.{sent}
+use Rattle.book.specs.Calls.{requestOf, afterRequest}
+use Rattle.book.specs.declared.Book.{Book}
 
 -- 'base 20.0000, mild, E 30,000,000, the same pipe'
 unfoldable pub prover : Prover
@@ -77,6 +77,11 @@ ticket opening closing sediment =
 unfoldable pub reportOn : List ℕ → List ℕ
 reportOn factors = leftBy (unless fine (nineUnless (firstGroup 5 5 factors) (λ at. reportOf 7 (length factors) (at + 1) (fiveAt factors at)))) bytesOfReport (replicate 32 255)
 
+-- the book after a shipper has sent the numbers 1, 2, .. up to n
+unfoldable pub sent : ℕ → ℕ → Book → Book
+sent shipper zero book = book
+sent shipper (suc n) book = afterRequest (sent shipper n book) shipper (suc n)
+
 pub record Figures : Type 0 where
   -- 1. 'T 70.0, Gc 250, 4 places: CTS 1.0003 (half-to-even gives 1.0002).'
   pub cts-at-70 : ctsOf 4 (Certified 250) (pos 700) ≡ done 10003
@@ -120,7 +125,6 @@ pub record Figures : Type 0 where
   pub reading-73 : temperatureOf (ofBits binary32 0x4292_8000) ≡ done (pos 733)
   pub reading-below-0 : temperatureOf (ofBits binary32 0xbe80_0000) ≡ done (negℤ (pos 3))
   -- 15. 'shipper 0 sends nine: the ninth is 24. Shipper 1 sends five: the fifth is 25. Shipper 2's first goes in.'
-  -- (`sent s n book` is the book after shipper s sent the numbers 1 to n.)
   pub ninth : requestOf (sent 0 8 emptyBook) 0 9 ≡ refused 24 0
   pub fifth : requestOf (sent 1 4 (sent 0 9 emptyBook)) 1 5 ≡ refused 25 0
   pub first : requestOf (sent 1 5 (sent 0 9 emptyBook)) 2 1 ≡ done tt

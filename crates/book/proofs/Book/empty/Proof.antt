@@ -1,12 +1,12 @@
 -- `book::Book::empty` meets its contract: it computes.
 use mathlib.Core.Path.{refl}
 use Rattle.book.specs.Figures.{emptyBook, shippers}
-use Rattle.book.specs.Line.{lineOf, places}
+use Rattle.book.specs.Line.{lineOf}
 use Rattle.book.proofs.Book.empty.Statement.{statement}
 use Rattle.book.proofs.Book.empty.Tie as tie
 
 returns : tie.Need-returns
-unfolding emptyBook shippers lineOf places
+unfolding emptyBook shippers lineOf
 returns c = refl
 
 pub empty-spec : {M : Type 1} → statement M

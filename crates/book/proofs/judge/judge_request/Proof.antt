@@ -1,30 +1,21 @@
 -- `book::judge::judge_request` meets its contract: the first three numbers, and past them the others of a request.
 use mathlib.Core.Path.{sym, ap, _∙_}
 use borrow.Author.Needs.{needs}
-use Rattle.refusals.proofs.Laws.{judged-was}
-use Rattle.book.specs.Answers.{toldChange}
-use Rattle.book.specs.Calls.{callFault, requestFault, requestOf}
-use Rattle.book.proofs.Calls.{judged-first}
+use Rattle.refusals.specs.Verdict.{faultOf}
+use Rattle.book.specs.Calls.{requestFault}
 use Rattle.book.proofs.judge.judge_request.Statement.{statement}
 use Rattle.book.proofs.judge.judge_request.Tie as tie
 
-judge-call-requires : tie.Need-judge-call-requires
-judge-call-requires c κs = tt
-
-enum-told : tie.Need-enum-told
-enum-told c = search needs
-
-judge-place-requires : tie.Need-judge-place-requires
-judge-place-requires c κs = judged-was (callFault _ _ _) tt (sym (c .before .before .judge-call .ensures) ∙ ap toldChange (c .enum-told .given .1))
+judge-entry-requires : tie.Need-judge-entry-requires
+judge-entry-requires c κs = sym (c .before .before .judge-call .ensures) ∙ ap faultOf (c .enum-told .given .1)
 
 returns : tie.Need-returns
-returns c = c .judge-place .ensures
+unfolding requestFault
+returns c = rw (judge-entry-requires (c .before) tt) (c .judge-entry .ensures)
 
 returns-2 : tie.Need-returns-2
-unfolding requestOf requestFault
-returns-2 c =
-    let told = ap toldChange (c .enum-told2 .given .1) in
-    told ∙ sym (judged-first (callFault _ _ _) _ (sym (c .before .before .judge-call .ensures) ∙ told))
+unfolding requestFault
+returns-2 c = let told = ap faultOf (c .enum-told2 .given .1) in rw (sym (c .before .before .judge-call .ensures) ∙ told) told
 
 pub judge-request-spec : {M : Type 1} → statement M
-judge-request-spec = tie.close (tie.spec judge-call-requires enum-told judge-place-requires (search needs) returns returns-2)
+judge-request-spec = tie.close (tie.spec (search needs) (search needs) judge-entry-requires (search needs) returns returns-2)

@@ -1,19 +1,20 @@
 -- `book::sound::are_lines_sound` meets its contract: the four lines, each with its shipper's ceiling.
 use native.Mathlib.Omega.{arith}
-use mathlib.Core.Bool.{_&&_}
-use Rattle.book.specs.Figures.{lineAt, ceiling}
+use mathlib.Core.Path.{sym, _∙_}
+use mathlib.Core.Bool.{_&&_, and-true}
+use Rattle.octets.specs.FirstToLast.{firstToLast}
+use Rattle.book.specs.Figures.{shippers, lineAt, ceiling}
 use Rattle.book.specs.Sound.{areLinesSound, isSoundAt}
 use Rattle.book.proofs.sound.are_lines_sound.Statement.{statement}
 use Rattle.book.proofs.sound.are_lines_sound.Tie as tie
 
 returns : tie.Need-returns
-unfolding areLinesSound isSoundAt lineAt ceiling
+unfolding areLinesSound isSoundAt firstToLast shippers lineAt ceiling
 returns c =
-    let first = c .before .before .before .before .before .before .is-line-sound .ensures in
-    let second = c .before .before .before .before .is-line-sound2 .ensures in
-    let third = c .before .before .is-line-sound3 .ensures in
-    let fourth = c .is-line-sound4 .ensures in
-    λ i. first i && (second i && (third i && fourth i))
+    let third = c .before .before in
+    let second = third .before .before in
+    let first = second .before .before in
+    λ i. first .is-line-sound .ensures i && (second .is-line-sound2 .ensures i && (third .is-line-sound3 .ensures i && (c .is-line-sound4 .ensures ∙ sym (and-true _)) i))
 
 pub are-lines-sound-spec : {M : Type 1} → statement M
 are-lines-sound-spec =

@@ -1,40 +1,39 @@
 -- `book::sound::are_unused_zero` meets its contract. The loop's invariant: the unused places are zero exactly when those
 -- from `i` on are. The measure is what is left to pass.
-use mathlib.Core.Path.{_≡_, refl, sym, _∙_}
+use mathlib.Core.Path.{_≡_, refl, sym}
 use Prim.Native.Nat.{_-_, _≤_}
 use native.Mathlib.Omega.{arith}
-use lib.ListN.{length, drop, length-map}
-use Rattle.book.specs.Line.{areZero}
-use Rattle.book.proofs.Lists.{zero-next, zero-fails, zero-done}
+use borrow.Author.Tests.{eq-eqb, ne-eqb}
+use Rattle.octets.specs.FirstToLast.{holdsAll}
+use Rattle.octets.specs.Octets.{isZeroAt, zeroBetween}
+use Rattle.octets.proofs.FirstToLast.{tests, next, all-hit, done}
 use Rattle.book.proofs.sound.are_unused_zero.Statement.{statement}
 use Rattle.book.proofs.sound.are_unused_zero.Tie as tie
 
 abbrev Inv-loop : tie.InvT-loop
-Inv-loop numbers i₀ i = (i ≤ 16) × (areZero (drop i₀ numbers) ≡ areZero (drop i numbers))
+Inv-loop numbers i₀ i = (i ≤ 16) × (zeroBetween numbers i₀ 16 ≡ holdsAll (isZeroAt numbers) (16 - i) i)
 
 abbrev μ-loop : tie.MeasureT-loop
 μ-loop numbers i₀ i = 16 - i
 
-sixteen : (c : tie.Start Inv-loop μ-loop) → length (c .args .line .numbers) ≡ 16
-sixteen c = simp length-map at (c .good .0 .1 .1 .0 .1 .0 .1)
-
 loop-holds : tie.Need-loop-holds Inv-loop μ-loop
+unfolding zeroBetween
 loop-holds c = (omega arith, refl)
 
 returns : tie.Need-returns Inv-loop μ-loop
+unfolding isZeroAt
 returns c =
-    let l = sixteen (c .before .before .before .before) in
-    sym (c .before .before .loop .inv .1 ∙ zero-fails _ (c .before .before .loop .i) (omega arith) (c .if1 .taken))
+    let turn = c .before .before .loop in
+    sym (all-hit (isZeroAt (c .before .before .before .before .args .line .numbers)) 16 (turn .i) (c .before .loop-test .taken) (ne-eqb _ _ (c .if1 .taken)) (turn .inv .1))
 
 loop-again : tie.Need-loop-again Inv-loop μ-loop
+unfolding isZeroAt
 loop-again c =
-    let l = sixteen (c .before .before .before .before) in
-    (omega arith, c .before .before .loop .inv .1 ∙ zero-next _ (c .before .before .loop .i) (omega arith) (c .if1 .left))
+    let turn = c .before .before .loop in
+    (omega arith, next tests (isZeroAt (c .before .before .before .before .args .line .numbers)) 16 (turn .i) (c .before .loop-test .taken) (eq-eqb _ _ (c .if1 .left)) (turn .inv .1))
 
 returns-2 : tie.Need-returns-2 Inv-loop μ-loop
-returns-2 c =
-    let l = sixteen (c .before .before .before) in
-    sym (c .before .loop .inv .1 ∙ zero-done _ (c .before .loop .i) (omega arith))
+returns-2 c = sym (done tests (isZeroAt (c .before .before .before .args .line .numbers)) 16 (c .before .loop .i) (c .loop-test .left) (c .before .loop .inv .1))
 
 pub are-unused-zero-spec : {M : Type 1} → statement M
 are-unused-zero-spec =

@@ -1,62 +1,38 @@
 -- `book::sound::count_commons_used` meets its contract: each count is what the shipper has waiting, and the sum is small.
-use mathlib.Core.Path.{_≡_}
 use Prim.Native.Nat.{ℕ, _+_, _-_, _≤_, _<_}
 use native.Mathlib.Omega.{arith}
-use Rattle.book.specs.Figures.{lineAt, commonsUsed}
-use Rattle.book.proofs.Books.{at-count, beyond-count}
-use Rattle.book.proofs.Shape.{Shaped, shaped}
+use Rattle.book.specs.Figures.{overShippers, lineAt, commonsUsed}
+use Rattle.book.proofs.Books.{lines-are, few-at, beyond-count}
 use Rattle.book.proofs.sound.count_commons_used.Statement.{statement}
 use Rattle.book.proofs.sound.count_commons_used.Tie as tie
 
-count-beyond-requires : tie.Need-count-beyond-requires
-count-beyond-requires c κs = tt
+few : (c : tie.Start) (s : ℕ) → s < 4 → lineAt (c .args .t1) s .count ≤ 8
+few c s h = few-at (c .args .t1) s (lines-are (c .args .t1) (c .pre) s h)
 
-count-beyond-requires-2 : tie.Need-count-beyond-requires-2
-count-beyond-requires-2 c κs = tt
-
-count-beyond-requires-3 : tie.Need-count-beyond-requires-3
-count-beyond-requires-3 c κs = tt
-
-count-beyond-requires-4 : tie.Need-count-beyond-requires-4
-count-beyond-requires-4 c κs = tt
-
-shape : (c : tie.Start) → Shaped (c .args .t1)
-shape c = shaped (c .args .t1) _ (c .good .0)
-
-small : (c : tie.Start) (s r : ℕ) → s < 4 → r ≡ lineAt (c .args .t1) s .count - 2 → r ≤ 6
-small c s r h is = let few = at-count (c .args .t1) (shape c) (c .pre) s h in omega arith
-
-add-result : tie.Need-add-result
+most : (c : tie.After-count-beyond4) → (c .before .before .before .count-beyond .result ≤ 8) × (c .before .before .count-beyond2 .result ≤ 8) × (c .before .count-beyond3 .result ≤ 8) × (c .count-beyond4 .result ≤ 8)
 unfolding lineAt
-add-result c =
-    let a = c .before .before .before .before in
-    omega (arith, small a 2 _ (omega arith) (c .before .count-beyond3 .ensures), small a 3 _ (omega arith) (c .count-beyond4 .ensures))
-
-add-result-2 : tie.Need-add-result-2
-unfolding lineAt
-add-result-2 c =
-    let a = c .before .before .before .before in
-    omega (arith, small a 1 _ (omega arith) (c .before .before .count-beyond2 .ensures), small a 2 _ (omega arith) (c .before .count-beyond3 .ensures), small a 3 _ (omega arith) (c .count-beyond4 .ensures))
-
-add-result-3 : tie.Need-add-result-3
-unfolding lineAt
-add-result-3 c =
-    let a = c .before .before .before .before in
-    omega (arith, small a 0 _ (omega arith) (c .before .before .before .count-beyond .ensures), small a 1 _ (omega arith) (c .before .before .count-beyond2 .ensures), small a 2 _ (omega arith) (c .before .count-beyond3 .ensures), small a 3 _ (omega arith) (c .count-beyond4 .ensures))
+most c =
+    let start = c .before .before .before .before in
+    let first = few start 0 (omega arith) in
+    let second = few start 1 (omega arith) in
+    let third = few start 2 (omega arith) in
+    let fourth = few start 3 (omega arith) in
+    (omega arith, omega arith, omega arith, omega arith)
 
 returns : tie.Need-returns
-unfolding lineAt commonsUsed
+unfolding lineAt commonsUsed overShippers
 returns c =
-    let a = c .before .before .before .before in
-    let b = a .args .t1 in
-    let first = beyond-count b (shape a) (a .pre) 0 (omega arith) (c .before .before .before .count-beyond .ensures) in
-    let second = beyond-count b (shape a) (a .pre) 1 (omega arith) (c .before .before .count-beyond2 .ensures) in
-    let third = beyond-count b (shape a) (a .pre) 2 (omega arith) (c .before .count-beyond3 .ensures) in
-    let fourth = beyond-count b (shape a) (a .pre) 3 (omega arith) (c .count-beyond4 .ensures) in
+    let start = c .before .before .before .before in
+    let b = start .args .t1 in
+    let line = lines-are b (start .pre) in
+    let first = beyond-count b 0 (line 0 (omega arith)) (c .before .before .before .count-beyond .ensures) in
+    let second = beyond-count b 1 (line 1 (omega arith)) (c .before .before .count-beyond2 .ensures) in
+    let third = beyond-count b 2 (line 2 (omega arith)) (c .before .count-beyond3 .ensures) in
+    let fourth = beyond-count b 3 (line 3 (omega arith)) (c .count-beyond4 .ensures) in
     λ i. first i + (second i + (third i + fourth i))
 
 pub count-commons-used-spec : {M : Type 1} → statement M
 count-commons-used-spec =
     tie.close
-    (tie.spec (λ c. omega arith) count-beyond-requires (λ c. omega arith) count-beyond-requires-2 (λ c. omega arith) count-beyond-requires-3
-    (λ c. omega arith) count-beyond-requires-4 add-result add-result-2 add-result-3 returns)
+    (tie.spec (λ c. omega arith) (λ c κs. tt) (λ c. omega arith) (λ c κs. tt) (λ c. omega arith) (λ c κs. tt) (λ c. omega arith) (λ c κs. tt)
+    (λ c. let m = most c in omega arith) (λ c. let m = most c in omega arith) (λ c. let m = most c in omega arith) returns)

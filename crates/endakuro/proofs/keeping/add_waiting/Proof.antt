@@ -1,4 +1,4 @@
--- `endakuro::keeping::add_waiting` is safe and ends. The loop's invariant: places stay within bounds, and a lent slice keeps its length.
+-- `endakuro::keeping::add_waiting` is safe and ends.
 use Prim.Native.Nat.{_-_, _≤_}
 use borrow.Author.Needs.{needs}
 use lib.ListN.{length}
@@ -13,7 +13,4 @@ abbrev μ-loop : tie.MeasureT-loop
 μ-loop out₀ from numbers count at₀ i₀ out at i = 16 - i
 
 pub add-waiting-spec : {M : Type 1} → statement M
-add-waiting-spec =
-    tie.close
-    (tie.spec Inv-loop μ-loop (search needs) (search needs) (search needs) (search needs) (search needs) (search needs) (search needs) (search needs)
-    (search needs) (search needs) (search needs))
+add-waiting-spec = tie.close (tie.spec Inv-loop μ-loop (search needs) (search needs) (search needs) (search needs) (search needs) (search needs) (search needs) (search needs) (search needs) (search needs) (search needs) (search needs))

@@ -1,4 +1,4 @@
--- `endakuro::keeping::line_at` is safe and ends. The loop's invariant: places stay within bounds, and a lent slice keeps its length.
+-- `endakuro::keeping::line_at` is safe and ends.
 use Prim.Native.Nat.{_-_, _≤_}
 use borrow.Author.Needs.{needs}
 use lib.ListN.{length}
@@ -13,7 +13,4 @@ abbrev μ-loop : tie.MeasureT-loop
 μ-loop line shipper numbers₀ from i₀ numbers i = 16 - i
 
 pub line-at-spec : {M : Type 1} → statement M
-line-at-spec =
-    tie.close
-    (tie.spec Inv-loop μ-loop (search needs) (search needs) (search needs) (search needs) (search needs) (search needs) (search needs) (search needs)
-    (search needs) (search needs) (search needs) (search needs) (search needs) (search needs))
+line-at-spec = tie.close (tie.spec Inv-loop μ-loop (search needs) (search needs) (search needs) (search needs) (search needs) (search needs) (search needs) (search needs) (search needs) (λ c. search needs) (search needs) (search needs) (search needs) (search needs))

@@ -1,4 +1,4 @@
--- `endakuro::operands::has_form` is safe and ends. The loop's invariant: places stay within bounds, and a lent slice keeps its length.
+-- `endakuro::operands::has_form` is safe and ends.
 use Prim.Native.Nat.{_-_, _≤_}
 use borrow.Author.Needs.{needs}
 use lib.ListN.{length}
@@ -12,7 +12,4 @@ abbrev μ-loop : tie.MeasureT-loop
 μ-loop line kinds i₀ i = length kinds - i
 
 pub has-form-spec : {M : Type 1} → statement M
-has-form-spec =
-    tie.close
-    (tie.spec Inv-loop μ-loop (search needs) (search needs) (search needs) (search needs) (search needs) (search needs) (search needs) (search needs)
-    (search needs) (search needs) (search needs) (search needs) (search needs))
+has-form-spec = tie.close (tie.spec Inv-loop μ-loop (search needs) (search needs) (search needs) (search needs) (search needs) (search needs) (search needs) (search needs) (search needs) (search needs) (search needs))

@@ -1,0 +1,182 @@
+"""What a command found, for machines: docs/JSON.md has every key. Figures are whole counts with their unit and
+decimals, so that nothing is lost or rounded on the way."""
+
+import json
+
+from . import fields, figures, version
+from .fields import BARREL, CUBIC_INCH, FACTOR, FINE_FACTOR, READING
+from .refusals import WORDS, Detail
+from .spreads import SPREAD
+
+ACCEPTED, REFUSED, BAD = "accepted", "refused", "bad file"
+RUN_UNITS = {key: BARREL if "volume" in key or key == "indicated" else FACTOR for key in figures.OF_A_RUN}
+FILL_UNITS = {key: CUBIC_INCH if key in ("adjusted", "drawn") else FINE_FACTOR for key in figures.OF_A_FILL}
+PASS_UNITS = {
+    "pressure": fields.PSI, "sum": CUBIC_INCH, "cps": FINE_FACTOR, "cpl": FINE_FACTOR, "volume": CUBIC_INCH,
+}  # fmt: skip
+TICKET_UNITS = {"indicated": READING, "cpl": FACTOR, "factor": FACTOR, "gross": READING, "net": READING}
+
+
+def text(told):
+    """One line."""
+    return json.dumps(told, ensure_ascii=False)
+
+
+def figure(count, unit):
+    return {"count": count, "unit": unit.name, "decimals": unit.places}
+
+
+def read_figures(counts, known):
+    return {key: figure(counts[key], field.unit) for key, field in known.items()}
+
+
+def told_figures(counts, units):
+    return {key: figure(counts[key], unit) for key, unit in units.items()}
+
+
+def head(command, outcome):
+    return {"endakuro": version.NUMBER, "command": command, "outcome": outcome}
+
+
+def job(worked):
+    """A worked job, accepted or refused."""
+    own = worked.job
+    told = head(own.kind, REFUSED if worked.refusal else ACCEPTED)
+    told["job"] = {"file": own.path, "sha256": own.digest, "heading": own.heading}
+    told |= BODIES[own.kind](worked)
+    return told | ({"refusal": refusal(worked.refusal)} if worked.refusal else {})
+
+
+def refusal(explained):
+    return {
+        "number": explained.number,
+        "words": WORDS[explained.number],
+        "record": explained.record,
+        "details": [detail(each) for each in explained.details],
+    }
+
+
+def detail(told):
+    """A detail: its words, and field, value and range where it is about one."""
+    if not isinstance(told, Detail):
+        return {"words": told}
+    made = {"words": str(told), "field": told.field}
+    if told.value is not None:
+        made["value"] = figure(told.value, told.unit)
+    if told.low is not None:
+        made["range"] = {"low": told.low, "high": told.high, "unit": told.unit.name, "decimals": told.unit.places}
+    return made
+
+
+def prover(own):
+    metal = fields.METALS[own.metal] if own.metal is not None else None
+    told = {"metal": metal, "coefficient": figure(own.in_use, fields.COEFFICIENT.unit)}
+    return told | read_figures(own.pipe, fields.PIPE)
+
+
+def group(own, unit, accepted):
+    """Runs or passes in a row; `spread` is rounded, `within` the tightest limit that they meet, null where not told."""
+    return {
+        "first": own.numbers[0],
+        "last": own.numbers[-1],
+        "accepted": accepted,
+        "largest": figure(own.largest, unit),
+        "smallest": figure(own.smallest, unit),
+        "spread": None if own.spread is None else figure(own.spread, SPREAD),
+        "within": None if own.within is None else figure(own.within, fields.LIMIT.unit),
+    }
+
+
+def proving(worked):
+    own, outcome = worked.job, worked.answer
+    settings = prover(own.prover) | {"base_volume": figure(own.prover.base, BARREL)}
+    settings["k_factor"] = figure(own.k_factor, fields.K_FACTOR.unit)
+    settings["repeatability_limit"] = figure(own.limit, fields.LIMIT.unit)
+    runs = [read_figures(run.counts, fields.RUN) for run in own.runs]
+    for run, told in zip(runs, worked.runs or ()):
+        run |= told_figures(told, RUN_UNITS)
+    told = {"request": own.request, "settings": settings, "runs": runs}
+    if worked.group:
+        told["group"] = group(worked.group, FACTOR, bool(outcome))
+    if outcome:
+        told["result"] = {"meter_factor": figure(outcome.factor, FACTOR), "record": outcome.record.hex()}
+    return told
+
+
+def draw(worked):
+    own = worked.job
+    limit = {"repeatability_limit": figure(fields.DRAW_LIMIT, fields.LIMIT.unit)}
+    fills = [read_figures(fill.counts, fields.FILL) for fill in own.fills]
+    for fill, told in zip(fills, worked.fills or ()):
+        fill |= told_figures(told, FILL_UNITS)
+    told = {"settings": prover(own.prover) | limit, "fills": fills}
+    if worked.passes:
+        told["passes"] = [{"pass": each["pass"], **told_figures(each, PASS_UNITS)} for each in worked.passes]
+    if worked.group:
+        told["group"] = group(worked.group, CUBIC_INCH, bool(worked.answer))
+    if worked.answer:
+        base, barrels, _ = worked.answer
+        told["result"] = {"base_volume": figure(base, CUBIC_INCH), "in_barrels": figure(barrels, BARREL)}
+    return told
+
+
+def ticket(worked):
+    told = {"readings": read_figures(worked.job.counts, fields.TICKET)}
+    return told | ({"result": told_figures(worked.answer, TICKET_UNITS)} if worked.answer else {})
+
+
+def live(worked):
+    told = {"readings": {key: {"number": own.number, "bits": own.bits} for key, own in worked.job.singles.items()}}
+    if worked.answer:
+        told["result"] = read_figures(dict(zip(fields.LIVE, worked.answer)), fields.LIVE)
+    return told
+
+
+BODIES = {"prove": proving, "draw": draw, "ticket": ticket, "live": live}
+
+
+def record(name, octets, told=None, explained=None):
+    """A report record read back, or refused."""
+    made = head("read", REFUSED if explained else ACCEPTED) | {"record": {"file": name, "bytes": octets.hex()}}
+    if explained:
+        return made | {"refusal": refusal(explained)}
+    five = [figure(each, FACTOR) for each in told["five"]]
+    factor = figure(told["factor"], FACTOR)
+    return made | {"result": {**told, "factor": factor, "five": five}}
+
+
+def bad(command, fault):
+    """A bad file or command: all its faults, each with its line where it has one."""
+    listed = [{"file": each.name, "line": each.line or None, "words": each.words} for each in fault.faults]
+    return head(command, BAD) | {"faults": listed}
+
+
+def step(text, words, explained, lines, last):
+    """A step of a book session, and the book after it; no lines where it is not sound."""
+    told = head("book", REFUSED if explained else ACCEPTED) | {"step": text, "words": words}
+    told["book"] = {"sound": lines is not None, "last": last, "lines": lines}
+    return told | ({"refusal": refusal(explained)} if explained else {})
+
+
+def new(kind, content):
+    return head("new", ACCEPTED) | {"kind": kind, "text": content}
+
+
+def unread(path, row):
+    """A job of rework that was not worked: a bad file, or one that was skipped."""
+    told = head("rework", row["outcome"]) | {"job": {"file": path, "sha256": row.get("SHA-256") or None}}
+    return told | {"words": row.get("words", "")}
+
+
+def summary(counts, stopped, csv, reports):
+    return head("rework", "stopped" if stopped else "done") | {"jobs": counts, "csv": csv, "reports": reports}
+
+
+def failed(command, words):
+    """What is neither a refusal nor a bad file."""
+    return head(command, "failed") | {"words": words}
+
+
+def verified(outcome, words, report, job):
+    told = {"report": report, "job": {"file": job.path, "sha256": job.digest}, "words": words}
+    return head("verify", outcome) | told

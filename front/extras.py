@@ -1,0 +1,53 @@
+"""What rework makes of each job besides its row: its page and plot in a folder, and its JSON."""
+
+import os
+from dataclasses import dataclass
+
+from . import as_json, outputs, pages, plot
+from . import worked as works
+from .badfile import BadFile
+
+
+@dataclass(frozen=True)
+class Extras:
+    """`base` is the folder that all jobs lie in: their pages lie in the folder of pages as they in it."""
+
+    json: bool = False
+    reports: str | None = None
+    base: str = ""
+
+    def place(self, path, ending):
+        """Where a job's page or plot goes. Only .toml is left out, so that no two files have one name."""
+        return os.path.join(self.reports, os.path.relpath(path, self.base).removesuffix(".toml") + ending)
+
+    def places(self, paths):
+        """All files that may be written, for the check that none of them costs anything."""
+        return [self.place(path, ending) for path in paths for ending in (".html", ".svg")] if self.reports else []
+
+    def make(self, path, job, program):
+        """The parts of a job's row that are not of the CSV."""
+        if not self.json and not self.reports:
+            return {}
+        worked = works.work(job, program)
+        if self.reports:
+            os.makedirs(os.path.dirname(self.place(path, "")), exist_ok=True)
+            outputs.write(self.place(path, ".html"), pages.printed(worked))
+            if worked.runs:
+                outputs.write(self.place(path, ".svg"), plot.draw(worked))
+        return {"json": as_json.job(worked)} if self.json else {}
+
+
+def of(options, paths):
+    """The extras that a command asks for; each output is held against the inputs before anything is written."""
+    base = os.path.commonpath([os.path.abspath(os.path.dirname(path) or ".") for path in paths])
+    wanted = Extras(options.json, options.reports and os.path.abspath(options.reports), base)
+    if wanted.reports and os.path.exists(wanted.reports) and not os.path.isdir(wanted.reports):
+        raise BadFile(options.reports, "--reports", "is a file: expected a folder")
+    there = [place for place in wanted.places(paths) if os.path.lexists(place)]
+    if there and not options.force:
+        raise BadFile(there[0], "--reports", "is there already: --force writes over it")
+    inputs = {outputs.identity(path) for path in paths} if there else set()
+    for place in there:
+        if outputs.identity(place) in inputs:
+            raise BadFile(place, "--reports", "is read by this command: expected another folder")
+    return wanted

@@ -1,0 +1,86 @@
+"""A job file of each kind to begin with: it runs as it is, and says of every key what it is and its range."""
+
+from . import fields
+
+WIDTH = 34
+HEAD = """\
+# {what}. It runs as it is: ./endakuro {kind} FILE. Put your own figures in place of these.
+# A number stands alone, 73.5, or in quotes with its unit, "73.5 °F"; it is taken exactly as it is written.
+"""
+HEADING = """
+[heading] # what the head of the page shows, in this order; any key, and none is needed
+title = "{title}"
+meter = "FT-101"
+liquid = "crude oil"
+date = 2026-01-31
+"""
+# What differs from run to run and from fill to fill.
+RUNS = (("17743", "63.0", "64.5"), ("17744", "63.0", "64.5"), ("17746", "63.5", "64.5"))
+RUNS += (("17746", "64.0", "65.5"), ("17747", "64.0", "65.5"))
+OF_A_RUN = ("pulses", "prover_temperature", "meter_temperature")
+FILLS = (("1", "12.50"), ("2", "12.75"), ("3", "12.25"))
+OF_A_FILL = ("pass", "scale_reading")
+PROVER = {"inside_diameter": "13.376", "wall_thickness": "0.312", "modulus": "30_000_000"}
+
+
+def row(field, value):
+    return f"{field.key} = {value}".ljust(WIDTH) + f" # {field.label}, {field.range}\n"
+
+
+def rows(known, values):
+    return "".join(row(known[key], value) for key, value in values.items())
+
+
+def prover(base):
+    metals = ", ".join(f'"{name}"' for name in fields.METALS)
+    text = f'\n[prover]\nmetal = "mild carbon" # one of {metals}\n'
+    text += f"# coefficient = 0.0000186 # {fields.COEFFICIENT.label}, {fields.COEFFICIENT.range}: wins over the metal\n"
+    return text + rows(fields.PIPE, PROVER) + (row(fields.BASE_VOLUME, base) if base else "")
+
+
+def entries(name, known, shared, keys, listed):
+    """What all runs share, and the runs with what is their own; the first says what each key is."""
+    text = f"\n[every_{name}] # what every {name} has; a {name}'s own key wins\n" + rows(known, shared)
+    for number, own in enumerate(listed, 1):
+        text += f"\n[[{name}]] # {number}\n"
+        values = dict(zip(keys, own))
+        text += rows(known, values) if number == 1 else "".join(f"{key} = {values[key]}\n" for key in keys)
+    return text
+
+
+def proving():
+    text = HEAD.format(what="A proving job", kind="prove") + "\n" + row(fields.REQUEST, "1")
+    text += row(fields.LIMIT, "0.05") + HEADING.format(title="A proving") + prover("17.654")
+    text += "\n[meter]\n" + row(fields.K_FACTOR, "1000")
+    shared = {
+        "prover_pressure": "80", "meter_pressure": "62", "prover_ctl": "0.9975", "meter_ctl": "0.9965",
+        "prover_compressibility": "8.23e-6", "meter_compressibility": "8.29e-6",
+    }  # fmt: skip
+    return text + entries("run", fields.RUN, shared, OF_A_RUN, RUNS)
+
+
+def draw():
+    text = HEAD.format(what="A water draw", kind="draw") + HEADING.format(title="A water draw") + prover(None)
+    shared = {
+        "certified_volume": "23100.00", "prover_temperature": "72.0", "measure_temperature": "72.5",
+        "measure_coefficient": "0.0000265", "ctdw": "1.000070", "pressure": "45",
+    }  # fmt: skip
+    return text + entries("fill", fields.FILL, shared, OF_A_FILL, FILLS)
+
+
+def ticket():
+    values = {
+        "opening": "12500.00", "closing": "13000.00", "meter_factor": "1.0002", "ctl": "0.9908", "pressure": "40",
+        "compressibility": "6.5e-6", "sediment_and_water": "0.500",
+    }  # fmt: skip
+    text = HEAD.format(what="A measurement ticket", kind="ticket") + HEADING.format(title="A ticket")
+    return text + "\n[ticket]\n" + rows(fields.TICKET, values)
+
+
+def live():
+    text = HEAD.format(what="A live reading", kind="live") + HEADING.format(title="A reading")
+    text += '\n[live] # numbers that a single holds exactly, or its eight hex digits in quotes: "42928000"\n'
+    return text + rows(fields.LIVE, {"temperature": "73.25", "pressure": "40"})
+
+
+TEXTS = {"prove": proving(), "draw": draw(), "ticket": ticket(), "live": live()}

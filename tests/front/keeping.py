@@ -1,0 +1,120 @@
+"""book --keep: the book between sessions, whole or not at all; history and editing at the keyboard."""
+
+import os
+import pty
+import subprocess
+import tempfile
+from pathlib import Path
+
+from harness import LAUNCHER, Tally, run
+from losses import small_files
+
+UP, LEFT = "\x1b[A", "\x1b[D"
+
+
+def between_sessions(tally, folder):
+    kept, other = folder / "book.txt", folder / "link"
+    other.symlink_to(kept)
+    status, _, err = run("book", "--keep", other, given="request 0 101\nrequest 2 7\nrequest 0 102\n")
+    tally.same((status, err, other.is_symlink()), (0, "", True), "the first session")
+    status, out, _ = run("book", "--keep", kept, given="take\nbook\n")
+    tally.same(status, 0, "the second session")
+    tally.holds(out, "request 101 of shipper 0 is taken\n  shipper 0: 102\n", "the second session")
+    status, out, _ = run("book", "--keep", kept, given="take\n")
+    tally.holds(out, "request 7 of shipper 2 is taken\n  shipper 0: 102\n  shipper 1: -\n", "whose turn it is is kept")
+    tally.same(kept.read_text().splitlines()[1:], ["load 2 102 - - -"], "what is kept")
+    status, out, _ = run("book", kept)
+    tally.same(status, 0, "a kept book is a session too")
+    tally.holds(out, "shipper 0: 102", "a kept book is a session too")
+    run("book", "--keep", kept, given="request 1 5\nask\ntake\n")
+    tally.holds(kept.read_text(), "load 2 102 5 - -\n", "steps before a line that is none are kept")
+    session = folder / "session.txt"
+    session.write_text("request 1 6\nask\n")
+    before = kept.read_bytes()
+    tally.same((run("book", session, "--keep", kept)[0], kept.read_bytes()), (2, before), "a session that is not whole")
+    status, out, _ = run("book", "--keep", kept, given="load 9 1 - - -\n")
+    tally.same(kept.read_bytes(), before, "a book that is not sound is not kept")
+    tally.holds(out, f"the book is not sound: {kept} keeps the last one that was", "a book that is not sound")
+
+
+def left_alone(tally, folder):
+    """Files that are no kept book, or cannot be written, are as they were."""
+    notes, steps = folder / "notes.txt", folder / "steps.txt"
+    for content in ("my notes\n", "request 0 1\n", "load 3 - - - -\nload 3 - - - -\n", "load 9 - - - -\n", "load 3\n"):
+        notes.write_text(content)
+        status, out, err = run("book", "--keep", notes, given="request 0 1\n")
+        tally.same((status, out, notes.read_text()), (2, "", content), f"no kept book: {content!r}")
+        tally.check(err.startswith(f"{notes}: --keep: "), f"no kept book: {err!r}")
+    steps.write_text("request 0 1\n")
+    status, _, err = run("book", steps, "--keep", steps)
+    tally.same((status, steps.read_text()), (2, "request 0 1\n"), "the session's own file")
+    os.mkfifo(folder / "pipe")
+    for place in (folder, "-", folder / "pipe"):
+        tally.same(run("book", "--keep", place, given="request 0 1\n")[0], 2, f"--keep {place}")
+    kept = folder / "kept.txt"
+    run("book", "--keep", kept, given="request 0 1\n")
+    before = kept.read_bytes()
+    full = [str(LAUNCHER), "book", "--keep", str(kept)]
+    many = "".join(f"request {at % 4} {4_000_000_000 + at}\n" for at in range(60)).encode()
+    done = subprocess.run(full, input=many, capture_output=True, preexec_fn=lambda: small_files(100))
+    tally.same((done.returncode, list(folder.glob(".*.part"))), (3, []), "a disk that is full")
+    tally.check(kept.read_bytes().startswith(before[:40]) and kept.read_bytes().endswith(b"\n"), "a disk that is full")
+    empty = folder / "empty.txt"
+    empty.touch()
+    tally.same(run("book", "--keep", empty, given="request 0 1\n")[0], 0, "an empty file is a new book")
+
+
+def two_sessions(tally, folder):
+    """What another session has kept since is not written over."""
+    kept = folder / "kept.txt"
+    command = [str(LAUNCHER), "book", "--keep", str(kept)]
+    one = subprocess.Popen(command, stdin=subprocess.PIPE, stdout=subprocess.PIPE, stderr=subprocess.PIPE, text=True)
+    one.stdin.write("request 0 1\n")
+    one.stdin.flush()
+    while "last served" not in one.stdout.readline():
+        pass
+    tally.same(run("book", "--keep", kept, given="request 1 2\n")[0], 0, "another session")
+    now = kept.read_bytes()
+    _, err = one.communicate("request 2 3\n", timeout=30)
+    tally.same((one.returncode, kept.read_bytes()), (3, now), "a session that comes too late")
+    tally.holds(err, "another session has changed it since; its book stays", "a session that comes too late")
+
+
+def typed_one_by_one(command, lines):
+    """Each line when it is asked for: what comes before that is no editing."""
+    mine, theirs = pty.openpty()
+    env = os.environ | {"TERM": "xterm"}
+    process = subprocess.Popen(command, stdin=theirs, stdout=theirs, stderr=theirs, env=env, close_fds=True)
+    os.close(theirs)
+    shown = b""
+    for number, line in enumerate(lines, 1):
+        while shown.count(b"book> ") < number:
+            shown += os.read(mine, 65536)
+        os.write(mine, line.encode() + b"\r")
+    while True:
+        try:
+            got = os.read(mine, 65536)
+        except OSError:
+            break
+        if not got:
+            break
+        shown += got
+    os.close(mine)
+    return process.wait(30), shown.decode("utf-8", "replace").replace("\r\n", "\n")
+
+
+def keyboard(tally, folder):
+    """A line called back by the arrow, and one edited in its midst."""
+    typed = ("request 0 1", "take", f"{UP}{UP}", f"request 3 7{LEFT}{LEFT}\x7f1", "quit")
+    status, shown = typed_one_by_one([str(LAUNCHER), "book"], typed)
+    tally.same(status, 0, "keyboard")
+    tally.same(shown.count("request 1 of shipper 0 goes in"), 2, "a line called back")
+    tally.holds(shown, "request 7 of shipper 1 goes in", "a line edited")
+
+
+def test():
+    tally = Tally("kept books")
+    for part in (between_sessions, left_alone, two_sessions, keyboard):
+        with tempfile.TemporaryDirectory() as folder:
+            part(tally, Path(folder))
+    return tally

@@ -1,0 +1,62 @@
+"""./endakuro new, lines and --version."""
+
+import subprocess
+import tempfile
+from hashlib import sha256
+from pathlib import Path
+
+from harness import LAUNCHER, ROOT, Tally, called, run
+from helping import KEYS
+
+from front import build, version
+
+
+def job_files(tally, folder):
+    """A new job file of each kind runs as it is, and has every key with its range."""
+    for kind in ("prove", "draw", "ticket", "live"):
+        path = Path(folder) / f"{kind}.toml"
+        status, text, err = called("new", kind)
+        tally.same((status, err), (0, ""), f"new {kind}")
+        path.write_text(text)
+        status, out, err = called(kind, path)
+        tally.same((status, err), (0, ""), f"the new file of {kind} runs")
+        for key, field in KEYS[kind].items():
+            lines = [line for line in text.splitlines() if line.removeprefix("# ").startswith(f"{key} = ")]
+            tally.check(any(f"# {field.label}, {field.range}" in line for line in lines), f"new {kind}: {key}")
+        tally.check(max(map(len, text.splitlines())) <= 120, f"new {kind}: a line is too long")
+        status, out, err = called("new", kind, path)
+        told = f"{path}: OUT.toml: is there already: --force writes over it\n"
+        tally.same((status, out, err, path.read_text()), (2, "", told, text), f"new {kind} onto a file")
+        path.write_text("x")
+        tally.same((called("new", kind, path, "--force")[0], path.read_text()), (0, text), f"new {kind} --force")
+    tally.same(run("new", "proof")[0], 2, "no such kind")
+
+
+def line_program(tally):
+    given = (ROOT / "examples" / "morning.txt").read_text()
+    status, out, err = run("lines", given=given)
+    expected = subprocess.run([ROOT / "tests" / "endakuro"], input=given, capture_output=True, text=True)
+    tally.same((status, out, err), (0, expected.stdout, ""), "lines")
+    tally.check(out.count("ok") > 1, "lines: no answers")
+    process = subprocess.Popen([LAUNCHER, "lines"], stdin=subprocess.PIPE, stdout=subprocess.PIPE, text=True, bufsize=1)
+    process.stdin.write("cpl 0 0 4\n")
+    tally.same(process.stdout.readline(), "ok 10000\n", "lines: an answer before the input ends")
+    process.stdin.close()
+    tally.same(process.wait(20), 0, "lines: status")
+
+
+def versions(tally):
+    status, out, err = run("--version")
+    tally.same((status, err), (0, ""), "--version")
+    digest = sha256(build.BINARY.read_bytes()).hexdigest()
+    expected = [version.NAME, f"line program {build.BINARY}", f"   SHA-256 {digest}"]
+    tally.same(out.splitlines(), expected, "--version")
+
+
+def test():
+    tally = Tally("new files, lines, version")
+    with tempfile.TemporaryDirectory() as folder:
+        job_files(tally, folder)
+    line_program(tally)
+    versions(tally)
+    return tally
