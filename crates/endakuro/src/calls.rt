@@ -13,7 +13,7 @@ use report::Factors;
 use report::Report;
 use run::Figures;
 use run::Worked;
-use ticket::Outcome;
+use ticket::Measured;
 use ticket::Ticket;
 
 fn say_factor(factor: Factor, out: &mut [u8]) -> usize {
@@ -36,9 +36,8 @@ fn answer_cps(line: &[u8], out: &mut [u8]) -> usize {
 }
 
 fn answer_cpl(line: &[u8], out: &mut [u8]) -> usize {
-    let p = operands::u16_at(line, 1);
-    let f = operands::u16_at(line, 2);
-    say_factor(factors::cpl(p, f, operands::places_at(line, 3)), out)
+    let liquid = operands::liquid_at(line, 1);
+    say_factor(factors::cpl(liquid, operands::places_at(line, 3)), out)
 }
 
 // FACTOR FIRST RUNS F1 F2 F3 F4 F5
@@ -174,21 +173,21 @@ fn say_passes(line: &[u8], records: &[u8], out: &mut [u8]) -> usize {
 }
 
 fn ticket_at(line: &[u8]) -> Ticket {
+    let liquid = operands::liquid_at(line, 5);
     Ticket {
         opening: operands::u32_at(line, 1),
         closing: operands::u32_at(line, 2),
         mf: operands::u16_at(line, 3),
         ctl: operands::u16_at(line, 4),
-        pressure: operands::u16_at(line, 5),
-        compressibility: operands::u16_at(line, 6),
+        liquid,
         sediment: operands::u32_at(line, 7),
     }
 }
 
 fn answer_ticket(line: &[u8], out: &mut [u8]) -> usize {
-    let outcome = ticket::work_out(ticket_at(line));
-    match outcome {
-        Outcome::Worked(volumes) => answers::say_ok(
+    let measured = ticket::work_out(ticket_at(line));
+    match measured {
+        Measured::Worked(volumes) => answers::say_ok(
             &[
                 volumes.factor as u64,
                 volumes.gross as u64,
@@ -196,7 +195,7 @@ fn answer_ticket(line: &[u8], out: &mut [u8]) -> usize {
             ],
             out,
         ),
-        Outcome::Refused(refusal) => answers::refuse(refusal, out),
+        Measured::Refused(refusal) => answers::refuse(refusal, out),
     }
 }
 

@@ -1,6 +1,7 @@
 // The operands of a line by their place, the entry's name being word 0. What is malformed reads as 0:
 // `has_form` is asked before.
 ghost use Prim.Native.Nat.{_≤_};
+use factors::Liquid;
 use factors::Metal;
 use factors::Pipe;
 use factors::Places;
@@ -110,6 +111,15 @@ pub(crate) fn metal_at(line: &[u8], n: usize) -> Metal
     requires { ⌜ n ≤ 8 ⌝ }
 {
     factors::choose_metal(u8_at(line, n), u16_at(line, n + 1))
+}
+
+pub(crate) fn liquid_at(line: &[u8], n: usize) -> Liquid
+    requires { ⌜ n ≤ 8 ⌝ }
+{
+    Liquid {
+        pressure: u16_at(line, n),
+        compressibility: u16_at(line, n + 1),
+    }
 }
 
 pub(crate) fn pipe_at(line: &[u8], n: usize) -> Pipe

@@ -88,11 +88,11 @@ module _ (prover : Prover) (k : ℕ) (s : List ℕ) where
     pub job-at-fault : {number at : ℕ} → jobOf request prover k limit s size ≡ refused number at → JobCause request prover k limit s size number at
     unfolding jobOf
     job-at-fault =
-        why-unless (orElse (demand (eqb size 32) 14) (demand (not (eqb request 0)) 22)) _
+        why-unless {C = C} (orElse (demand (eqb size 32) 14) (demand (not (eqb request 0)) 22)) _
         (and-then (demand (eqb size 32) 14) _ (unless-so (eqb size 32) 14 (λ out. cause.buffer-size (not-equal size 32 out)))
         (λ _. unless-so (not (eqb request 0)) 22 (λ out. cause.number-zero (was-zero request out))))
         (λ _. why-unless (inputFault prover k limit s) _ why-input
-        (λ _. why-nine (firstFive prover k limit s) (reportAt request prover k s) (λ is. cause.no-group (no-five prover k limit s is))))
+        (λ _. why-nine C (firstFive prover k limit s) (reportAt request prover k s) (λ is. cause.no-group (no-five prover k limit s is))))
 
 -- ---- the water draw
 
@@ -127,4 +127,4 @@ module _ (prover : Prover) (s : List ℕ) where
 
   pub draw-at-fault : {number at : ℕ} → drawOf prover s ≡ refused number at → DrawCause prover s number at
   unfolding drawOf baseOf
-  draw-at-fault = why-unless (drawFault prover s) _ why-draw (λ _. why-nine (firstGroup 2 3 (volumesOf prover s)) _ (λ is. cause.no-three-passes (no-three prover s is)))
+  draw-at-fault = why-unless (drawFault prover s) _ why-draw (λ _. why-nine (DrawCause prover s) (firstGroup 2 3 (volumesOf prover s)) _ (λ is. cause.no-three-passes (no-three prover s is)))

@@ -34,8 +34,7 @@ use Rattle.ticket.specs.Answers.{volumes, ticketOf}
 use Rattle.live.specs.Exact.{numerator, denominator}
 use Rattle.live.specs.Rounding.{awayFromZero}
 use Rattle.live.specs.Live.{wholeOf, singleOf, temperatureOf, psiOk, pressureOf, liveOf}
-use Rattle.octets.specs.Lists.{isOneOf, areZero}
-use Rattle.octets.specs.Records.{zerosAfter}
+use Rattle.octets.specs.Lists.{isOneOf}
 use Rattle.book.specs.Line.{waiting, lineOf, areProper}
 use Rattle.book.specs.Figures.{shippers, overShippers, places, reserve, ceiling, commons, lineAt, waitingOf, has, beyond, commonsUsed, put, emptyBook}
 use Rattle.book.specs.Sound.{isLineSound, isSoundAt, areLinesSound, isSound}

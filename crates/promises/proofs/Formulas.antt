@@ -40,7 +40,7 @@ use Rattle.run.specs.Figures.{indicated, steelCts, steelCps, correctedBy, atPro
 use Rattle.run.specs.Answers.{givenFault, figuresFault, figuresTold, workedOf}
 use Rattle.run.specs.declared.Run.{Run}
 use Rattle.run.specs.declared.Figures.{Figures}
-use Rattle.run.proofs.Laws.{SideFits, side-fits, RunFits, run-fits, ProverFits, prover-fits}
+use Rattle.run.proofs.Laws.{RunFits, run-fits, ProverFits, prover-fits}
 use Rattle.draw.specs.Fill.{fillAt, fillOk}
 use Rattle.draw.specs.Drawn.{adjusted, measureCts, proverCts, ccts, drawn, figuresOf as fillFigures}
 use Rattle.draw.specs.Passes.{isOf, passSum, pressureAt, passPressure, waterCompressibility, waterAt, correctedVolume, passVolume}
@@ -169,16 +169,14 @@ unfolding figuresOf figuresFrom indicated steelCts steelCps correctedBy correcte
 figures-rounded prover k run settings kOk fits factorOk =
     let p : ProverFits prover = prover-fits prover settings in
     let r : RunFits run = run-fits run fits in
-    let at-prover : SideFits (run .prover) = side-fits (run .prover) (r .prover) in
-    let at-meter : SideFits (run .meter) = side-fits (run .meter) (r .meter) in
     record {
       indicated-volume = to 4 (run .pulses * 1000) k (omega (arith, within-low 1 1000000000 k kOk));
       steel-temperature = cts-once 4 (prover .metal) (run .prover .temperature);
-      steel-pressure = cps-once 4 (prover .pipe) (run .prover .liquid .pressure) (p .pipe) (pressure-fits (run .prover .liquid) (at-prover .liquid));
-      prover-liquid = cpl-once 4 (run .prover .liquid) (at-prover .liquid);
+      steel-pressure = cps-once 4 (prover .pipe) (run .prover .liquid .pressure) (p .pipe) (pressure-fits (run .prover .liquid) (r .prover .liquid));
+      prover-liquid = cpl-once 4 (run .prover .liquid) (r .prover .liquid);
       prover-factor = combined-once 4 _;
       prover-volume = to 4 _ 100000000 (omega arith);
-      meter-liquid = cpl-once 4 (run .meter .liquid) (at-meter .liquid);
+      meter-liquid = cpl-once 4 (run .meter .liquid) (r .meter .liquid);
       meter-factor = combined-once 4 _;
       meter-volume = to 4 _ 100000000 (omega arith);
       run-factor = to 4 _ _ (divisor-some _ _ factorOk);

@@ -47,6 +47,6 @@ module _ {C : ℕ → ℕ → Type 0} where
   why-unless fine t why next is = next refl is
   why-unless (fault n a) t why next is = given-for C (why .because) is
 
-  pub why-nine : {A : Type 0} (o : Option ℕ) (follows : ℕ → A) {number at : ℕ} → (o ≡ none → C 9 0) → nineUnless o follows ≡ refused number at → C number at
-  why-nine none follows why is = given-for C (why refl) is
-  why-nine (some place) follows why is = absurd (refused-not-done (sym is))
+pub why-nine : {A : Type 0} (C : ℕ → ℕ → Type 0) (o : Option ℕ) (follows : ℕ → A) {number at : ℕ} → (o ≡ none → C 9 0) → nineUnless o follows ≡ refused number at → C number at
+why-nine C none follows why is = given-for C (why refl) is
+why-nine C (some place) follows why is = absurd (refused-not-done (sym is))
