@@ -1,7 +1,7 @@
 -- 01, 'How much a contract says': 'Every public function states its entire outcome for all inputs: what it returns, and the bytes and book
 -- left behind, also when it refuses. That no second outcome satisfies the statement is itself proved'. Of the contracts themselves:
 -- `f.Post κ a r x` is what the function f ensures of the arguments a at entry, the answer r and the arguments x at exit (κ are the
--- lifetimes of what is lent). `keeper`'s three functions are in Keeper.antt, the grammar's twelve in GrammarOutcome.antt;
+-- lifetimes of what is lent). `keeper`'s three functions are in Keeper.antt, the grammar's eighteen in GrammarOutcome.antt;
 -- `book::sound::is_sound`, which `book` does not export, is `is-sound-one-outcome` of `book`.
 use mathlib.Core.Path.{_≡_, sym, _∙_}
 use mathlib.Core.List.{List}
