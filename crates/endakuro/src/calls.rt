@@ -1,11 +1,14 @@
 // The entries that keep no book: the operands of a line handed to the library, its answer written.
-ghost use Prim.Native.Nat.{_≤_};
 use crate::answers;
 use crate::operands;
 use draw::Counted;
 use draw::FillAnswer;
 use draw::WaterDraw;
 use factors::Factor;
+use lines::answers::add_bytes;
+use lines::answers::add_numbers;
+use lines::answers::refuse;
+use lines::answers::say_ok;
 use live::Live;
 use live::Reading;
 use report::Answer;
@@ -18,8 +21,8 @@ use ticket::Ticket;
 
 fn say_factor(factor: Factor, out: &mut [u8]) -> usize {
     match factor {
-        Factor::Value(value) => answers::say_ok(&[value as u64], out),
-        Factor::Refused(refusal) => answers::refuse(refusal, out),
+        Factor::Value(value) => say_ok(&[value as u64], out),
+        Factor::Refused(refusal) => refuse(refusal, out),
     }
 }
 
@@ -43,7 +46,7 @@ fn answer_cpl(line: &[u8], out: &mut [u8]) -> usize {
 // FACTOR FIRST RUNS F1 F2 F3 F4 F5
 fn add_report(report: Report, out: &mut [u8], at: usize) -> usize {
     let factors = report.factors;
-    answers::add_numbers(
+    add_numbers(
         &[
             report.factor as u64,
             report.first as u64,
@@ -62,10 +65,10 @@ fn add_report(report: Report, out: &mut [u8], at: usize) -> usize {
 fn say_job(answer: Answer, out: &mut [u8]) -> usize {
     match answer {
         Answer::Fields(report) => {
-            let at = words::write_text(b"ok", out, 0);
+            let at = answers::say_done(out);
             add_report(report, out, at)
         }
-        Answer::Refused(refusal) => answers::refuse(refusal, out),
+        Answer::Refused(refusal) => refuse(refusal, out),
     }
 }
 
@@ -78,7 +81,7 @@ fn prove_into(line: &[u8], records: &[u8], buffer: &mut [u8], out: &mut [u8]) ->
         proving::prove(request, prover, k, limit, records, buffer),
         out,
     );
-    answers::add_bytes(buffer, out, at)
+    add_bytes(buffer, out, at)
 }
 
 fn answer_prove(line: &[u8], first: &mut [u8], second: &mut [u8], out: &mut [u8]) -> usize {
@@ -91,14 +94,14 @@ fn say_runs(line: &[u8], records: &[u8], out: &mut [u8]) -> usize {
     let prover = operands::prover_at(line, 1);
     let k = operands::u32_at(line, 7);
     let limit = operands::u16_at(line, 8);
-    let at = words::write_text(b"ok", out, 0);
-    answers::add_bytes(proving::accept(prover, k, limit, records), out, at)
+    let at = answers::say_done(out);
+    add_bytes(proving::accept(prover, k, limit, records), out, at)
 }
 
 fn say_figures(figures: Figures, out: &mut [u8]) -> usize {
     let prover = figures.prover;
     let meter = figures.meter;
-    answers::say_ok(
+    say_ok(
         &[
             figures.indicated,
             figures.cts,
@@ -120,7 +123,7 @@ fn say_run(line: &[u8], bytes: &[u8], out: &mut [u8]) -> usize {
     let worked = run::show(prover, operands::u32_at(line, 7), bytes);
     match worked {
         Worked::Figures(figures) => say_figures(figures, out),
-        Worked::Refused(refusal) => answers::refuse(refusal, out),
+        Worked::Refused(refusal) => refuse(refusal, out),
     }
 }
 
@@ -128,16 +131,16 @@ fn say_draw(line: &[u8], records: &[u8], out: &mut [u8]) -> usize {
     let drawn = draw::draw(operands::prover_at(line, 1), records);
     match drawn {
         WaterDraw::Drawn(volume) => {
-            answers::say_ok(&[volume.base, volume.barrels, volume.first as u64], out)
+            say_ok(&[volume.base, volume.barrels, volume.first as u64], out)
         }
-        WaterDraw::Refused(refusal) => answers::refuse(refusal, out),
+        WaterDraw::Refused(refusal) => refuse(refusal, out),
     }
 }
 
 fn say_fill(line: &[u8], bytes: &[u8], out: &mut [u8]) -> usize {
     let filled = draw::fill(operands::metal_at(line, 1), bytes);
     match filled {
-        FillAnswer::Figures(fill) => answers::say_ok(
+        FillAnswer::Figures(fill) => say_ok(
             &[
                 fill.adjusted,
                 fill.measure,
@@ -147,13 +150,13 @@ fn say_fill(line: &[u8], bytes: &[u8], out: &mut [u8]) -> usize {
             ],
             out,
         ),
-        FillAnswer::Refused(refusal) => answers::refuse(refusal, out),
+        FillAnswer::Refused(refusal) => refuse(refusal, out),
     }
 }
 
 fn say_volumes(volumes: [u64; 20], count: u8, out: &mut [u8]) -> usize {
     let shown = count as usize;
-    let mut at = answers::say_ok(&[count as u64], out);
+    let mut at = say_ok(&[count as u64], out);
     let mut i = 0;
     while i < 20 {
         at = answers::add_wanted(i < shown, volumes[i], out, at);
@@ -168,7 +171,7 @@ fn say_passes(line: &[u8], records: &[u8], out: &mut [u8]) -> usize {
     let volumes = found.volumes;
     match answer {
         Counted::Passes(count) => say_volumes(volumes, count, out),
-        Counted::Refused(refusal) => answers::refuse(refusal, out),
+        Counted::Refused(refusal) => refuse(refusal, out),
     }
 }
 
@@ -187,7 +190,7 @@ fn ticket_at(line: &[u8]) -> Ticket {
 fn answer_ticket(line: &[u8], out: &mut [u8]) -> usize {
     let measured = ticket::work_out(ticket_at(line));
     match measured {
-        Measured::Worked(volumes) => answers::say_ok(
+        Measured::Worked(volumes) => say_ok(
             &[
                 volumes.factor as u64,
                 volumes.gross as u64,
@@ -195,14 +198,14 @@ fn answer_ticket(line: &[u8], out: &mut [u8]) -> usize {
             ],
             out,
         ),
-        Measured::Refused(refusal) => answers::refuse(refusal, out),
+        Measured::Refused(refusal) => refuse(refusal, out),
     }
 }
 
 fn say_live(tenths: i16, psi: u16, out: &mut [u8]) -> usize {
-    let at = words::write_text(b"ok", out, 0);
+    let at = answers::say_done(out);
     let next = answers::add_signed(tenths, out, at);
-    answers::add_numbers(&[psi as u64], out, next)
+    add_numbers(&[psi as u64], out, next)
 }
 
 fn answer_live(line: &[u8], out: &mut [u8]) -> usize {
@@ -213,7 +216,7 @@ fn answer_live(line: &[u8], out: &mut [u8]) -> usize {
     let whole = live::convert(reading);
     match whole {
         Live::Whole { tenths, psi } => say_live(tenths, psi, out),
-        Live::Refused(refusal) => answers::refuse(refusal, out),
+        Live::Refused(refusal) => refuse(refusal, out),
     }
 }
 
@@ -227,10 +230,10 @@ fn factors_at(line: &[u8]) -> Factors {
     }
 }
 
-fn say_done(answer: Answer, out: &mut [u8]) -> usize {
+fn say_written(answer: Answer, out: &mut [u8]) -> usize {
     match answer {
-        Answer::Fields(_) => words::write_text(b"ok", out, 0),
-        Answer::Refused(refusal) => answers::refuse(refusal, out),
+        Answer::Fields(_) => answers::say_done(out),
+        Answer::Refused(refusal) => refuse(refusal, out),
     }
 }
 
@@ -239,8 +242,8 @@ fn write_into(line: &[u8], buffer: &mut [u8], out: &mut [u8]) -> usize {
     let request = operands::u32_at(line, 1);
     let runs = operands::u8_at(line, 2);
     let first = operands::u8_at(line, 3);
-    let at = say_done(report::write(request, runs, first, factors, buffer), out);
-    answers::add_bytes(buffer, out, at)
+    let at = say_written(report::write(request, runs, first, factors, buffer), out);
+    add_bytes(buffer, out, at)
 }
 
 fn answer_write(line: &[u8], first: &mut [u8], out: &mut [u8]) -> usize {
@@ -252,10 +255,10 @@ fn say_read(bytes: &[u8], out: &mut [u8]) -> usize {
     let answer = report::read(bytes);
     match answer {
         Answer::Fields(report) => {
-            let at = answers::say_ok(&[report.number as u64], out);
+            let at = say_ok(&[report.number as u64], out);
             add_report(report, out, at)
         }
-        Answer::Refused(refusal) => answers::refuse(refusal, out),
+        Answer::Refused(refusal) => refuse(refusal, out),
     }
 }
 

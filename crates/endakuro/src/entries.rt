@@ -1,5 +1,5 @@
 // The entries by their names and operands (docs/LINES.md).
-use crate::operands;
+use lines::operands::has_form;
 
 // The entry that a line names, by its place in the table: the names, and the kinds of each entry's words
 // in the same order, the name's own (n) first. 19 where the name is unknown or a word is not of its kind.
@@ -10,7 +10,7 @@ pub(crate) fn find_entry(line: &[u8]) -> usize {
         b"nbw nbw n nbbbbbwwwwwwwwwwwwwwwwwwwwwwwwwwwwwwwwwwwwwwwwwwwwwwwwwwwwwwwwwwwwwwww n n nwbhwwwwwhxx nwbbhhhhhx nbhwwwwwhx nbhwwwwwx nx nbhwwwwx nbhx nbhwwwwx nsbhp nhwwwp nhhp nwwhhhhw nff";
     let entry = find_name(words::word(line, 0), names);
     if entry < 19 {
-        if operands::has_form(line, words::word(forms, entry)) {
+        if has_form(line, words::word(forms, entry)) {
             return entry;
         }
     }

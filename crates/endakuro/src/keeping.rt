@@ -7,6 +7,9 @@ use book::Change;
 use book::Changed;
 use book::Handout;
 use book::Line;
+use lines::answers::add_numbers;
+use lines::answers::refuse;
+use lines::answers::say_ok;
 use refusals::Refusal;
 
 // The book as it is kept on, and how many bytes of `out` are the answer.
@@ -15,16 +18,12 @@ pub(crate) struct Answered {
     pub(crate) length: usize,
 }
 
-fn say_done(out: &mut [u8]) -> usize {
-    words::write_text(b"ok", out, 0)
-}
-
 fn say_change(done: Changed, out: &mut [u8]) -> Answered {
     let book = done.book;
     let answer = done.answer;
     let length = match answer {
-        Change::Made => say_done(out),
-        Change::Refused(refusal) => answers::refuse(refusal, out),
+        Change::Made => answers::say_done(out),
+        Change::Refused(refusal) => refuse(refusal, out),
     };
     Answered { book, length }
 }
@@ -45,8 +44,8 @@ fn answer_withdraw(line: &[u8], kept: Book, out: &mut [u8]) -> Answered {
 
 fn say_handout(answer: Handout, out: &mut [u8]) -> usize {
     match answer {
-        Handout::Handed(shipper, number) => answers::say_ok(&[shipper as u64, number as u64], out),
-        Handout::Refused(refusal) => answers::refuse(refusal, out),
+        Handout::Handed(shipper, number) => say_ok(&[shipper as u64, number as u64], out),
+        Handout::Refused(refusal) => refuse(refusal, out),
     }
 }
 
@@ -68,7 +67,7 @@ fn wide(n: u32) -> u64 {
 fn add_waiting(line: Line, out: &mut [u8], from: usize) -> usize {
     let numbers = line.numbers;
     let count = line.count;
-    let mut at = answers::add_numbers(&[count as u64], out, from);
+    let mut at = add_numbers(&[count as u64], out, from);
     let mut i = 0;
     while i < 16 {
         at = answers::add_wanted(i < count, wide(numbers[i]), out, at);
@@ -79,9 +78,9 @@ fn add_waiting(line: Line, out: &mut [u8], from: usize) -> usize {
 
 fn say_book(kept: Book, out: &mut [u8]) -> usize {
     if !book::is_sound(kept) {
-        return answers::refuse(Refusal::BookNotSound, out);
+        return refuse(Refusal::BookNotSound, out);
     }
-    let mut at = answers::say_ok(&[kept.last as u64], out);
+    let mut at = say_ok(&[kept.last as u64], out);
     let mut shipper = 0;
     while shipper < 4 {
         at = add_waiting(kept.lines[shipper], out, at);
@@ -119,7 +118,7 @@ fn book_at(line: &[u8]) -> Book {
 fn replace(given: Book, out: &mut [u8]) -> Answered {
     Answered {
         book: given,
-        length: say_done(out),
+        length: answers::say_done(out),
     }
 }
 

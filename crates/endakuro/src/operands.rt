@@ -1,81 +1,26 @@
-// The operands of a line by their place, the entry's name being word 0. What is malformed reads as 0:
-// `has_form` is asked before.
+// The operands of a line as the library takes them, by their place, the entry's name being word 0. What
+// is malformed reads as 0: the line's form is asked before.
 ghost use Prim.Native.Nat.{_≤_};
 use factors::Liquid;
 use factors::Metal;
 use factors::Pipe;
 use factors::Places;
 use factors::Prover;
-use numerals::Number;
+use lines::operands::number_at;
 use numerals::Signed;
 
-fn number_or_zero(number: Number) -> u32 {
-    match number {
-        Number::Value(value) => value,
-        Number::Malformed => 0,
-    }
-}
-
-fn is_number(number: Number) -> bool {
-    match number {
-        Number::Value(_) => true,
-        Number::Malformed => false,
-    }
-}
-
-fn is_signed(signed: Signed) -> bool {
-    match signed {
-        Signed::Value(_) => true,
-        Signed::Malformed => false,
-    }
-}
-
-fn is_places(word: &[u8]) -> bool {
-    check::same(word, b"4") | check::same(word, b"6")
-}
-
-// A word is of its operand's type: b u8, h u16, w u32, s i16, p places, x bytes, f single; n any, a name.
-fn is_operand(word: &[u8], kind: u8) -> bool {
-    match kind {
-        b'n' => true,
-        b'b' => is_number(numerals::read_number(word, 255)),
-        b'h' => is_number(numerals::read_number(word, 65535)),
-        b'w' => is_number(numerals::read_number(word, 4294967295)),
-        b's' => is_signed(numerals::read_signed(word)),
-        b'p' => is_places(word),
-        b'x' => hex::are_bytes(word),
-        b'f' => hex::is_single(word),
-        _ => false,
-    }
-}
-
-// As many words as kinds, each of its kind.
-pub(crate) fn has_form(line: &[u8], kinds: &[u8]) -> bool {
-    if words::count_words(line) != kinds.len() {
-        return false;
-    }
-    let mut i = 0;
-    while i < kinds.len() {
-        if !is_operand(words::word(line, i), kinds[i]) {
-            return false;
-        }
-        i += 1;
-    }
-    true
-}
-
 pub(crate) fn u8_at(line: &[u8], n: usize) -> u8 {
-    let value = number_or_zero(numerals::read_number(words::word(line, n), 255));
+    let value = number_at(line, n, 255);
     if value <= 255 { value as u8 } else { 0 }
 }
 
 pub(crate) fn u16_at(line: &[u8], n: usize) -> u16 {
-    let value = number_or_zero(numerals::read_number(words::word(line, n), 65535));
+    let value = number_at(line, n, 65535);
     if value <= 65535 { value as u16 } else { 0 }
 }
 
 pub(crate) fn u32_at(line: &[u8], n: usize) -> u32 {
-    number_or_zero(numerals::read_number(words::word(line, n), 4294967295))
+    number_at(line, n, 4294967295)
 }
 
 pub(crate) fn i16_at(line: &[u8], n: usize) -> i16 {

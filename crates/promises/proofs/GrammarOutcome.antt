@@ -15,6 +15,12 @@ use Rattle.hex.proofs.read_bytes.Reads as hex-read-bytes
 use Rattle.hex.proofs.is_single.Reads as hex-is-single
 use Rattle.hex.proofs.read_single.Reads as hex-read-single
 use Rattle.hex.proofs.write_bytes.Reads as hex-write-bytes
+use Rattle.lines.proofs.operands.has_form.Reads as lines-has-form
+use Rattle.lines.proofs.operands.number_at.Reads as lines-number-at
+use Rattle.lines.proofs.answers.add_numbers.Reads as lines-add-numbers
+use Rattle.lines.proofs.answers.add_bytes.Reads as lines-add-bytes
+use Rattle.lines.proofs.answers.say_ok.Reads as lines-say-ok
+use Rattle.lines.proofs.answers.refuse.Reads as lines-refuse
 
 pub record GrammarOutcome : Type 0 where
   -- the word, by the bytes in it
@@ -35,6 +41,16 @@ pub record GrammarOutcome : Type 0 where
   pub hex-read-single-one : OneAnswer hex-read-single.Post
   pub hex-write-bytes-one : OneAnswer hex-write-bytes.Post
   pub hex-write-bytes-left : OneLeft hex-write-bytes.Post (λ κ x. x .1 .0 .now)
+  pub lines-has-form-one : OneAnswer lines-has-form.Post
+  pub lines-number-at-one : OneAnswer lines-number-at.Post
+  pub lines-add-numbers-one : OneAnswer lines-add-numbers.Post
+  pub lines-add-numbers-left : OneLeft lines-add-numbers.Post (λ κ x. x .1 .0 .now)
+  pub lines-add-bytes-one : OneAnswer lines-add-bytes.Post
+  pub lines-add-bytes-left : OneLeft lines-add-bytes.Post (λ κ x. x .1 .0 .now)
+  pub lines-say-ok-one : OneAnswer lines-say-ok.Post
+  pub lines-say-ok-left : OneLeft lines-say-ok.Post (λ κ x. x .1 .0 .now)
+  pub lines-refuse-one : OneAnswer lines-refuse.Post
+  pub lines-refuse-left : OneLeft lines-refuse.Post (λ κ x. x .1 .0 .now)
 
 pub grammar-outcome : GrammarOutcome
 grammar-outcome =
@@ -56,4 +72,14 @@ grammar-outcome =
       hex-read-single-one = λ _ _ _ _ _ _. same;
       hex-write-bytes-one = λ _ _ _ _ _ _ p p′. same (p .0) (p′ .0);
       hex-write-bytes-left = λ _ _ _ _ _ _ p p′. same (p .1) (p′ .1);
+      lines-has-form-one = λ _ _ _ _ _ _. same;
+      lines-number-at-one = λ _ _ _ _ _ _. same;
+      lines-add-numbers-one = λ _ _ _ _ _ _ p p′. same (p .0) (p′ .0);
+      lines-add-numbers-left = λ _ _ _ _ _ _ p p′. same (p .1) (p′ .1);
+      lines-add-bytes-one = λ _ _ _ _ _ _ p p′. same (p .0) (p′ .0);
+      lines-add-bytes-left = λ _ _ _ _ _ _ p p′. same (p .1) (p′ .1);
+      lines-say-ok-one = λ _ _ _ _ _ _ p p′. same (p .0) (p′ .0);
+      lines-say-ok-left = λ _ _ _ _ _ _ p p′. same (p .1) (p′ .1);
+      lines-refuse-one = λ _ _ _ _ _ _ p p′. same (p .0) (p′ .0);
+      lines-refuse-left = λ _ _ _ _ _ _ p p′. same (p .1) (p′ .1);
     }

@@ -13,4 +13,7 @@ abbrev μ-loop : tie.MeasureT-loop
 μ-loop line shipper numbers₀ from i₀ numbers i = 16 - i
 
 pub line-at-spec : {M : Type 1} → statement M
-line-at-spec = tie.close (tie.spec Inv-loop μ-loop (search needs) (search needs) (search needs) (search needs) (search needs) (search needs) (search needs) (search needs) (search needs) (λ c. search needs) (search needs) (search needs) (search needs) (search needs))
+line-at-spec =
+    tie.close
+    (tie.spec Inv-loop μ-loop (search needs) (search needs) (search needs) (search needs) (search needs) (search needs) (search needs) (search needs) (search needs)
+    (λ c. search needs) (search needs) (search needs) (search needs) (search needs))

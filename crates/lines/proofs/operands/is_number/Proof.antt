@@ -1,0 +1,16 @@
+-- `lines::operands::is_number` meets its contract.
+use borrow.Author.Needs.{needs}
+use Rattle.numerals.specs.Numbers.{told}
+use Rattle.lines.proofs.operands.is_number.Statement.{statement}
+use Rattle.lines.proofs.operands.is_number.Tie as tie
+
+returns : tie.Need-returns
+unfolding told
+returns c = search needs
+
+returns-2 : tie.Need-returns-2
+unfolding told
+returns-2 c = search needs
+
+pub is-number-spec : {M : Type 1} → statement M
+is-number-spec = tie.close (tie.spec (search needs) (search needs) returns returns-2)
