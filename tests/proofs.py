@@ -21,16 +21,23 @@ WIDTH = 250
 EDGE = r"[\s(){},;.⌜⌝]"
 LAW = re.compile(r"^\s*(?:abbrev |unfoldable )?(?:pub )?([^\s(){};.:=]+) :(?: |$)")
 CLOSING = re.compile(r"-spec$")
+CHAIN = re.compile(r"(?: \.before){5}")
+# The place that a chain leads to, named: by a definition of its own, or by a let.
+NAMED = re.compile(r"^\S+ c = c(?: \.before)+$|let \S+ = \w+(?: \.[\w-]+)+ in")
 
 
 def parts(name):
     """The visible parts of a name: an operator such as _≤_ is used by its sign."""
-    name = name.split(" as ")[-1].strip()
     return [part for part in name.split("_") if part] if "_" in name else [name]
 
 
+def stands(word, text):
+    return re.search(rf"(?:^|{EDGE}){re.escape(word)}(?:$|{EDGE})", text)
+
+
 def uses(name, text):
-    return all(re.search(rf"(?:^|{EDGE}){re.escape(part)}(?:$|{EDGE})", text) for part in parts(name))
+    name = name.split(" as ")[-1].strip()
+    return stands(name, text) or all(stands(part, text) for part in parts(name))
 
 
 def split_text(path):
@@ -51,23 +58,23 @@ def unused_imports(path):
         for name in listed.group(1).split(", ") if listed else []:
             if not uses(name, rest):
                 yield f"imports {name} and does not use it"
-        alias = re.match(r"use (\S+) as (\S+)$", line)
-        if alias and not re.search(rf"(?:^|{EDGE}){re.escape(alias.group(2))}\.", rest):
-            yield f"imports {alias.group(2)} and does not use it"
+        alias = re.match(r"use [^\s{]+ as (\S+)$", line)
+        if alias and not re.search(rf"(?:^|{EDGE}){re.escape(alias.group(1))}\.", rest):
+            yield f"imports {alias.group(1)} and does not use it"
 
 
 def shapes(path):
     for number, line in enumerate(path.read_text().split("\n"), 1):
         if WIDTH < len(line) and not line.startswith("use ") and not line.lstrip().startswith(("unfolding", "--")):
             yield f"line {number} has {len(line)} characters"
-        if ".before .before .before .before .before" in line and not re.match(r"\s*\S+ c = c (\.before ?)+$", line):
+        if CHAIN.search(NAMED.sub("", line)):
             yield f"line {number} has five .before in a row and no name for them"
         if path.parent.name == "specs" and line.strip().startswith("unfolding "):
             yield f"line {number} opens a definition"
 
 
 def laws(path):
-    """The names that a file of laws declares; what a record or data type holds belongs to it and is not listed."""
+    """The names that a file declares, with their depth; what a record or data type holds belongs to it and is not listed."""
     inside = None
     for line in path.read_text().split("\n"):
         depth = len(line) - len(line.lstrip())
@@ -77,19 +84,21 @@ def laws(path):
             inside = depth
             continue
         if inside is None and (found := LAW.match(line)) and not re.match(r"\s*(use|module|mod|infix)\b", line):
-            yield found.group(1)
+            yield found.group(1), depth
 
 
 def unused_laws(texts, pages):
     for path, text in texts.items():
-        if "proofs" not in path.parts or path.parts[-4] == "promises" or path.name == "Proof.antt" and False:
+        if "proofs" not in path.parts or "promises" in path.parts:
             continue
-        for name in laws(path):
+        for name, depth in laws(path):
             if CLOSING.search(name) or name.startswith(("Inv-", "μ-")):
                 continue
-            own = sum(1 for _ in re.finditer(rf"(?:^|{EDGE}){re.escape(name)}(?={EDGE}|$)", text, re.M))
-            heads = sum(1 for line in text.split("\n") if re.match(rf"\s*(?:abbrev |unfoldable )?(?:pub )?{re.escape(name)}(?: |$)", line))
-            if own > heads or any(other != path and uses(name, body) for other, body in texts.items()):
+            said = re.compile(rf"(?:^|{EDGE}){re.escape(name)}(?={EDGE}|$)", re.M)
+            head = re.compile(rf"^ {{{depth}}}(?:abbrev |unfoldable )?(?:pub )?{re.escape(name)}(?={EDGE}|$)", re.M)
+            if len(said.findall(text)) > len(head.findall(text)):
+                continue
+            if any(other != path and uses(name, body) for other, body in texts.items()):
                 continue
             if not any(f"`{name}`" in page for page in pages):
                 yield path, f"{name} is cited nowhere"

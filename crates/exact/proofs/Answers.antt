@@ -1,10 +1,8 @@
 -- What a rounded quotient answers: when it is a value, and which.
 use mathlib.Core.Path.{_≡_, sym, ap, _∙_}
-use mathlib.Core.Logic.{by-cases}
 use Prim.Native.Nat.{ℕ, zero, suc, _+_, _*_, _-_, _^_, _<_, _≤_}
 use native.Mathlib.Nat.{div-zero, le-mul-of-pos-right}
 use native.Mathlib.Omega.{arith}
-use native.Mathlib.Decide.{decLt}
 use borrow.Author.Tests.{lt-ltb, le-ltb, ne-eqb}
 use Rattle.exact.specs.Rounding.{roundedDiv}
 use Rattle.exact.specs.Quotient.{quotientOf, valueOrZero}
@@ -29,13 +27,6 @@ pub value-of-word : (n d : ℕ) → n < 2 ^ 64 → valueOrZero (quotientOf n d) 
 unfolding quotientOf roundedDiv
 value-of-word n zero fits = sym (div-zero (2 * n + 0))
 value-of-word n (suc d) fits = value-below n {d = suc d} (omega arith) n (le-mul-of-pos-right n (omega arith)) fits
-
--- a value is the rounded quotient, and there is one only of a divisor above zero
-pub value-is : (n : ℕ) {d v : ℕ} → 0 < d → quotientOf n d ≡ Value v → v ≡ roundedDiv n d
-value-is n {d} {v} h is =
-    by-cases (decLt (roundedDiv n d) (2 ^ 64))
-    (λ fits. let p : quotientOf n d ≡ Value (roundedDiv n d) = is-value n h fits in cc)
-    (λ more. let p : quotientOf n d ≡ TooLarge = is-too-large n h (omega arith) in cc)
 
 -- the answers, from the whole quotient q and the rest r of a division
 module _ {n d r : ℕ} (q : ℕ) (whole : q * d + r ≡ n) (small : r < d) where

@@ -1,6 +1,6 @@
 -- The factors' magnitudes, and what each answer is once the ranges are known.
 use mathlib.Core.Path.{_≡_, sym, ap, _∙_}
-use Prim.Native.Nat.{ℕ, _*_, _-_, _^_, _<_, _≤_}
+use Prim.Native.Nat.{ℕ, _*_, _^_, _<_, _≤_}
 use native.Mathlib.Nat.{mul-assoc, mul-comm, mul-le-mul-right, le-trans, le-of-eq}
 use native.Mathlib.Omega.{arith}
 use Rattle.exact.specs.Rounding.{rounded, _over_}

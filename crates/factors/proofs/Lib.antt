@@ -3,4 +3,3 @@ pub mod Squeezed
 pub mod Combining
 pub mod Steel
 pub mod Values
-pub mod Figures

@@ -6,14 +6,13 @@ use mathlib.Core.List.{List, [], _∷_}
 use mathlib.Core.Option.{none, some}
 use Prim.Native.Nat.{ℕ, zero, suc, _+_, _*_, _-_, _≤_, _<_}
 use native.Mathlib.Nat.{mul-le-mul-left, add-sub-cancel-left}
-use native.Mathlib.Numerals.{add-one}
 use native.Mathlib.Omega.{arith}
 use borrow.Author.Tests.{leb-true, le-leb}
 use lib.Dec.{leb}
 use lib.ListN.{length, getD, take, drop, length-take, length-drop}
-use lib.Seq.{take-take, take-nil, drop-cons, getD-take, getD-drop}
+use lib.Seq.{take-take, take-nil, getD-take, getD-drop}
 use Rattle.octets.specs.FirstToLast.{firstPlace, placeIf}
-use Rattle.octets.proofs.FirstToLast.{First, places, nowhere, start, place-no, place-first, first-place, place-none}
+use Rattle.octets.proofs.FirstToLast.{First, places, nowhere, start, place-no, place-first, place-none}
 use Rattle.group.specs.Repeatability.{smallest, largest, qualifies, groupAt, qualifiesAt, firstGroup, placeOf}
 use Rattle.group.specs.declared.Group.{Group}
 use Rattle.group.specs.declared.Group.the-variants.{At, Nothing}
@@ -41,10 +40,6 @@ pub group-none : (xs : List ℕ) (at : ℕ) → groupAt 0 xs at ≡ []
 unfolding groupAt
 group-none xs at = refl
 
-pub group-first : (n : ℕ) (xs : List ℕ) (at : ℕ) → at < length xs → groupAt (suc n) xs at ≡ getD xs at 0 ∷ groupAt n xs (at + 1)
-unfolding groupAt
-group-first n xs at h = rw (add-one, drop-cons xs at 0)
-
 -- a part of a slice is a group
 pub part-is-group : (n : ℕ) (xs : List ℕ) (at : ℕ) → take (at + n - at) (drop at xs) ≡ groupAt n xs at
 unfolding groupAt
@@ -63,10 +58,6 @@ group-of-used n [] (suc at) count h = rw (take-nil count)
 group-of-used n (x ∷ xs) (suc at) zero h = absurd (omega arith)
 group-of-used n (x ∷ xs) (suc at) (suc count) h = group-of-used n xs at count (omega arith)
 
--- what a caller lends who keeps such an array: its part, as a group of the values used
-pub part-of-used : (n : ℕ) (xs : List ℕ) (at count : ℕ) → at + n ≤ count → take (at + n - at) (drop at xs) ≡ groupAt n (take count xs) at
-part-of-used n xs at count h = part-is-group n xs at ∙ sym (group-of-used n xs at count h)
-
 -- ---- the test
 
 pub qualifies-none : (limit : ℕ) (xs : List ℕ) → length xs ≡ 0 → qualifies limit xs ≡ false
@@ -80,11 +71,6 @@ qualifies-some limit xs h = rw (le-leb 1 (length xs) h)
 -- every two values differ by no more than `limit` ten-thousandths of any
 abbrev pub Repeats : ℕ → List ℕ → Type 0
 Repeats limit xs = (j k m : ℕ) → j < length xs → k < length xs → m < length xs → (getD xs j 0 - getD xs k 0) * 10000 ≤ limit * getD xs m 0
-
-pub qualifies-has-values : (limit : ℕ) (xs : List ℕ) → qualifies limit xs ≡ true → 0 < length xs
-unfolding qualifies
-qualifies-has-values limit [] is = let z : _≡_ {A = ℕ} 0 1 = cc in absurd (omega arith)
-qualifies-has-values limit (x ∷ xs) is = omega arith
 
 module _ (limit : ℕ) (xs : List ℕ) where
   pub qualifies-repeats : qualifies limit xs ≡ true → Repeats limit xs
@@ -113,11 +99,6 @@ module _ (limit n : ℕ) (xs : List ℕ) where
   first-found {at} is =
       let first : First (qualifiesAt limit n xs) (length xs + 1 - n) 0 at = place-first (qualifiesAt limit n xs) (length xs + 1 - n) 0 is in
       record { within = omega arith; qualified = first .passes; before = λ j h. first .before j (omega arith) h }
-
-  pub found-first : {at : ℕ} → FirstGroup limit n xs at → firstGroup limit n xs ≡ some at
-  unfolding firstGroup qualifiesAt
-  found-first first =
-      first-place (qualifiesAt limit n xs) (length xs + 1 - n) 0 (record { from = omega arith; below = omega arith; passes = first .qualified; before = λ j _ h. first .before j h })
 
   pub none-found : firstGroup limit n xs ≡ none → (j : ℕ) → j + n ≤ length xs → qualifies limit (groupAt n xs j) ≡ false
   unfolding firstGroup qualifiesAt

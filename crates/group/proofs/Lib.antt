@@ -4,4 +4,3 @@ pub mod Means
 pub mod Groups
 pub mod Listed
 pub mod Spreads
-pub mod Figures

@@ -36,7 +36,8 @@ text-low (b ∷ s) (suc i) h =
     let e : 2 * suc i + 1 ≡ suc (suc (2 * i + 1)) = omega arith in
     rw e (text-low s i (omega arith))
 
-pub two-more : (to t now-is : List ℕ) (at i high low : ℕ) → at + length t ≤ length to → 2 * i + 1 < length t → now-is ≡ paste to at t (2 * i) → high ≡ getD t (2 * i) 0 → low ≡ getD t (2 * i + 1) 0 → set (set now-is (at + 2 * i) high) (at + 2 * i + 1) low ≡ paste to at t (2 * (i + 1))
+pub two-more : (to t now-is : List ℕ) (at i high low : ℕ) → at + length t ≤ length to → 2 * i + 1 < length t → now-is ≡ paste to at t (2 * i) → high ≡ getD t (2 * i) 0 → low ≡ getD t (2 * i + 1) 0
+    → set (set now-is (at + 2 * i) high) (at + 2 * i + 1) low ≡ paste to at t (2 * (i + 1))
 two-more to t now-is at i high low room h is hi lo =
     let k = 2 * i in
     let next : at + k + 1 ≡ at + suc k = omega arith in

@@ -100,7 +100,8 @@ unfolding digitsTo
 first-digit zero n h p = absurd (omega arith)
 first-digit (suc k) n h p = by (decLt n 10) (first-digit k (n / 10))
   where
-    by : Dec (n < 10) → (n / 10 < 10 ^ k → 0 < n / 10 → (48 < getD (digitsTo k (n / 10)) 0 0) × (0 < length (digitsTo k (n / 10)))) → (48 < getD (cond (ltb n 10) ((48 + n) ∷ []) (digitsTo k (n / 10) ++ ((48 + n % 10) ∷ []))) 0 0) × (0 < length (cond (ltb n 10) ((48 + n) ∷ []) (digitsTo k (n / 10) ++ ((48 + n % 10) ∷ []))))
+    by : Dec (n < 10) → (n / 10 < 10 ^ k → 0 < n / 10 → (48 < getD (digitsTo k (n / 10)) 0 0) × (0 < length (digitsTo k (n / 10))))
+        → (48 < getD (cond (ltb n 10) ((48 + n) ∷ []) (digitsTo k (n / 10) ++ ((48 + n % 10) ∷ []))) 0 0) × (0 < length (cond (ltb n 10) ((48 + n) ∷ []) (digitsTo k (n / 10) ++ ((48 + n % 10) ∷ []))))
     by (yes low) first = rw (lt-ltb n 10 low) (omega arith)
     by (no high) first =
         let up : 10 ^ suc k ≡ 10 ^ k * 10 = pow-suc 10 k in

@@ -88,7 +88,8 @@ pub machine-above : (to : List ℕ) (at m : ℕ) {z : ℤ} → SFits w16 z → l
 machine-above to at m {z} f h e =
     shown-above to at m z (subst (λ (y : ℤ). leZ (pos 0) y ≡ true) (toZ-ofZ w16 z f) h) (e ∙ ap natAbs (toZ-ofZ w16 z f))
 
-pub machine-below : (to : List ℕ) (at m : ℕ) {z : ℤ} → SFits w16 z → leZ (pos 0) (toZ w16 (ofZ w16 z)) ≡ false → m ≡ natAbs (toZ w16 (ofZ w16 z)) → Shown to at (placeAfter (writtenAt to at dash) (placeAfter to at dash) (printed m)) (writtenAt (writtenAt to at dash) (placeAfter to at dash) (printed m)) z
+pub machine-below : (to : List ℕ) (at m : ℕ) {z : ℤ} → SFits w16 z → leZ (pos 0) (toZ w16 (ofZ w16 z)) ≡ false → m ≡ natAbs (toZ w16 (ofZ w16 z))
+    → Shown to at (placeAfter (writtenAt to at dash) (placeAfter to at dash) (printed m)) (writtenAt (writtenAt to at dash) (placeAfter to at dash) (printed m)) z
 machine-below to at m {z} f h e =
     shown-below to at m z (subst (λ (y : ℤ). leZ (pos 0) y ≡ false) (toZ-ofZ w16 z f) h) (e ∙ ap natAbs (toZ-ofZ w16 z f))
 

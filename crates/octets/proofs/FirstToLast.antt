@@ -98,7 +98,15 @@ module _ {A : Type 0} {or : A → A → A} {nothing : A} (kind : Search or nothi
       (λ (miss : f i ≡ nothing).
       let later : rest ≡ x = sym (kind .passes rest) ∙ ap (λ (a : A). or a rest) (sym miss) ∙ is in
       let found-later : Least nothing f n (i + 1) x = least n (i + 1) later found in
-      record { place = found-later .place; from = omega arith; below = omega arith; gives = found-later .gives; before = λ j l h. ⊎-elim (λ (here : i ≡ j). ap f (sym here) ∙ miss) (λ (past : i < j). found-later .before j (omega arith) h) (eq-or-lt-of-le l) })
+      record {
+        place =
+            found-later .place;
+        from = omega arith;
+        below = omega arith;
+        gives = found-later .gives;
+        before = λ j l h. ⊎-elim (λ (here : i ≡ j). ap f (sym here) ∙ miss)
+            (λ (past : i < j). found-later .before j (omega arith) h) (eq-or-lt-of-le l);
+      })
       (λ (ends : (y : A) → or (f i) y ≡ f i).
       record { place = i; from = omega arith; below = omega arith; gives = sym (ends rest) ∙ is; before = λ j l h. absurd (omega arith) })
       (kind .ends (f i))

@@ -64,7 +64,8 @@ read-written a t (suc n) x h =
 pub read-part : (n x : ℕ) (s : List ℕ) (at : ℕ) → x < 256 ^ n → at ≤ length s → take n (drop at s) ≡ bytesOf n x → numberAt n s at ≡ x
 read-part n x s at h l part =
     let rest : List ℕ = drop n (drop at s) in
-    let split : take at s ++ bytesOf n x ++ rest ≡ s = append-assoc (take at s) (bytesOf n x) rest ∙ ap (λ (p : List ℕ). take at s ++ (p ++ rest)) (sym part) ∙ ap (λ (p : List ℕ). take at s ++ p) (take-append-drop n (drop at s)) ∙ take-append-drop at s in
+    let split : take at s ++ bytesOf n x ++ rest ≡ s = append-assoc (take at s) (bytesOf n x) rest ∙ ap (λ (p : List ℕ). take at s ++ (p ++ rest)) (sym part)
+    ∙ ap (λ (p : List ℕ). take at s ++ p) (take-append-drop n (drop at s)) ∙ take-append-drop at s in
     let place : length (take at s) ≡ at = length-take-le at s l in
     sym (λ i. numberAt n (split i) (place i)) ∙ read-written (take at s) rest n x h
 

@@ -1,3 +1,2 @@
 pub mod FirstToLast
 pub mod Laws
-pub mod Figures

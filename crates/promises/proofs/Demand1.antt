@@ -107,7 +107,8 @@ Carried numbers n number = (i : ℕ) → i < n → refusalOk numbers 1 n number 
 
 -- what a proving finds, with or without a buffer and a request number
 module _ {numbers : List ℕ} (prover : Prover) (k limit : ℕ) (s : List ℕ) where
-  input-finds : Given numbers (runsIn s) 1 → Given numbers (runsIn s) 3 → Given numbers (runsIn s) 4 → Carried numbers (runsIn s) 5 → Carried numbers (runsIn s) 2 → Carried numbers (runsIn s) 7 → Carried numbers (runsIn s) 8 → Finds numbers 1 (runsIn s) (inputFault prover k limit s)
+  input-finds : Given numbers (runsIn s) 1 → Given numbers (runsIn s) 3 → Given numbers (runsIn s) 4 → Carried numbers (runsIn s) 5 → Carried numbers (runsIn s) 2 → Carried numbers (runsIn s) 7
+      → Carried numbers (runsIn s) 8 → Finds numbers 1 (runsIn s) (inputFault prover k limit s)
   unfolding inputFault settingsFault recordFault runFault
   input-finds one three four five two seven eight =
       by-orElse (by-orElse (by-demand (sizeOk (length s)) 1 one) (by-orElse (by-demand (proverOk prover) 3 three) (by-orElse (by-demand (kFactorOk k) 4 four) (by-demand (limitOk limit) 4 four))))
@@ -158,7 +159,8 @@ pub fill-ends : (metal : Metal) (s : List ℕ) → Ends (1 ∷ 3 ∷ 5 ∷ 2 ∷
 unfolding fillOf isOneOf markedOf recordOk refusalOk
 fill-ends metal s = by-judged _ (by-orElse (by-demand (eqb (length s) 32) 1 refl) (by-orElse (by-demand (metalOk metal) 3 refl) (record-finds s 0 refl refl)))
 
-draw-finds : {numbers : List ℕ} (prover : Prover) (s : List ℕ) → Given numbers (recordsIn 32 s) 1 → Given numbers (recordsIn 32 s) 3 → Carried numbers (recordsIn 32 s) 5 → Carried numbers (recordsIn 32 s) 2 → Carried numbers (recordsIn 32 s) 6 → Finds numbers 1 (recordsIn 32 s) (drawFault prover s)
+draw-finds : {numbers : List ℕ} (prover : Prover) (s : List ℕ) → Given numbers (recordsIn 32 s) 1 → Given numbers (recordsIn 32 s) 3 → Carried numbers (recordsIn 32 s) 5
+    → Carried numbers (recordsIn 32 s) 2 → Carried numbers (recordsIn 32 s) 6 → Finds numbers 1 (recordsIn 32 s) (drawFault prover s)
 unfolding drawFault fillFault
 draw-finds prover s one three five two six =
     by-orElse (by-demand (areRecords fillsOk 32 (length s)) 1 one)

@@ -59,7 +59,8 @@ module _ (f : ℕ → ℕ) (limit n at : ℕ) where
   repeatable-is-meeting some-values each =
       let long : length (listed f n at) ≡ n = listed-length f n at in
       repeats-qualifies limit (listed f n at) (omega arith)
-      (λ i j m hi hj hm. let said : (f (at + i) - f (at + j)) * 10000 ≤ limit * f (at + m) = each i j m (omega arith) (omega arith) (omega arith) in rw (listed-value f n at i (omega arith), listed-value f n at j (omega arith), listed-value f n at m (omega arith)) said)
+      (λ i j m hi hj hm. let said : (f (at + i) - f (at + j)) * 10000 ≤ limit * f (at + m) = each i j m (omega arith) (omega arith) (omega arith) in
+      rw (listed-value f n at i (omega arith), listed-value f n at j (omega arith), listed-value f n at m (omega arith)) said)
 
 not-zero : (n : ℕ) → not (eqb n 0) ≡ true → n ≡ 0 → ⊥
 not-zero n is zero-is = apart (sym is ∙ ap not (eq-eqb n 0 zero-is))
@@ -142,7 +143,9 @@ module _ (prover : Prover) (k limit : ℕ) (s : List ℕ) where
   -- the report's five are the factors of the five runs
   five-listed : (at : ℕ) → at + 5 ≤ runsIn s → listOf (fiveAt (factorsOf prover k s) at) ≡ listed (factorAt prover k s) 5 at
   unfolding listOf fiveAt listed
-  five-listed at room = λ i. each at at (omega arith) refl i ∷ each (at + 1) (at + 1) (omega arith) refl i ∷ each (at + 2) (at + 1 + 1) (omega arith) (omega arith) i ∷ each (at + 3) (at + 1 + 1 + 1) (omega arith) (omega arith) i ∷ each (at + 4) (at + 1 + 1 + 1 + 1) (omega arith) (omega arith) i ∷ []
+  five-listed at room =
+      λ i. each at at (omega arith) refl i ∷ each (at + 1) (at + 1) (omega arith) refl i ∷ each (at + 2) (at + 1 + 1) (omega arith) (omega arith) i ∷ each (at + 3) (at + 1 + 1 + 1) (omega arith)
+      (omega arith) i ∷ each (at + 4) (at + 1 + 1 + 1 + 1) (omega arith) (omega arith) i ∷ []
     where
       each : (j m : ℕ) → j < runsIn s → j ≡ m → getD (factorsOf prover k s) j 0 ≡ factorAt prover k s m
       each j m h same = factor-values j (omega (arith, factor-count)) ∙ ap (factorAt prover k s) same
@@ -261,7 +264,8 @@ module _ (prover : Prover) (s : List ℕ) where
       joined (demand-holds 1 (both-true (eq-eqb (length s % runSize) 0 (input .whole)) (input .fills)))
       (joined (demand-holds 3 (both-true (input .metal) (input .pipe)))
       (joined
-      (nowhere faults (fillFault s) (recordsIn 32 s) 0 (λ i _ h. let b : i < recordsIn 32 s = omega arith in joined (joined (demandAt-holds 5 (i + 1) (input .fields i b)) (demandAt-holds 2 (i + 1) (input .unnamed i b))) (demandAt-holds 6 (i + 1) (input .rule i b))))
+      (nowhere faults (fillFault s) (recordsIn 32 s) 0 (λ i _ h. let b : i < recordsIn 32 s = omega arith in
+      joined (joined (demandAt-holds 5 (i + 1) (input .fields i b)) (demandAt-holds 2 (i + 1) (input .unnamed i b))) (demandAt-holds 6 (i + 1) (input .rule i b))))
       (demand-holds 1 (input .passes))))
 
   volume-count : length (volumesOf prover s) ≡ passCount s

@@ -72,6 +72,10 @@ unfolding prover run fillBytes fill six passes drawn ticket reportOn temperature
 besides = record {
   no-volume = refl;
   no-factor = refl;
+  first-not-tightest = refl;
+  by-smallest-not-mean = refl;
+  half-goes-up = refl;
+  wide-mean = refl;
   buffer-first = refl;
   number-next = refl;
   report-last = refl;

@@ -100,7 +100,15 @@ report-numbered (answer.Refused why) = not-zero why
 
 report-back : ReadBack noReport flatReport
 unfolding flatReport
-report-back = record { number = λ f. f .number; record-at = λ f. f .at; values = λ f. record { number = f .request; factor = f .factor; first = f .first; runs = f .runs; factors = record { one = f .f1; two = f .f2; three = f .f3; four = f .f4; five = f .f5 } }; number-is = λ t. refl; record-is = λ t. refl; values-are = λ t. refl }
+report-back =
+    record {
+      number = λ f. f .number;
+      record-at = λ f. f .at;
+      values = λ f. record { number = f .request; factor = f .factor; first = f .first; runs = f .runs; factors = record { one = f .f1; two = f .f2; three = f .f3; four = f .f4; five = f .f5 } };
+      number-is = λ t. refl;
+      record-is = λ t. refl;
+      values-are = λ t. refl;
+    }
 
 pub report-loses-nothing : (a b : Answer) → flatReport (toldReport a) ≡ flatReport (toldReport b) → a ≡ b
 report-loses-nothing = loses-nothing report-back report-one report-numbered
@@ -111,7 +119,15 @@ run-numbered (worked.Refused why) = not-zero why
 
 run-back : ReadBack noFigures flatRun
 unfolding flatRun
-run-back = record { number = λ f. f .number; record-at = λ f. f .at; values = λ f. record { indicated = f .indicated; cts = f .cts; cps = f .cps; prover = record { cpl = f .provercpl; factor = f .proverfactor; volume = f .provervolume }; meter = record { cpl = f .metercpl; factor = f .meterproduct; volume = f .metervolume }; factor = f .factor }; number-is = λ t. refl; record-is = λ t. refl; values-are = λ t. refl }
+run-back =
+    record {
+      number = λ f. f .number;
+      record-at = λ f. f .at;
+      values = λ f. record { indicated = f .indicated; cts = f .cts; cps = f .cps; prover = record { cpl = f .provercpl; factor = f .proverfactor; volume = f .provervolume }; meter = record { cpl = f .metercpl; factor = f .meterproduct; volume = f .metervolume }; factor = f .factor };
+      number-is = λ t. refl;
+      record-is = λ t. refl;
+      values-are = λ t. refl;
+    }
 
 pub run-loses-nothing : (a b : Worked) → flatRun (toldRun a) ≡ flatRun (toldRun b) → a ≡ b
 run-loses-nothing = loses-nothing run-back run-one run-numbered
@@ -122,7 +138,15 @@ fill-numbered (filled.Refused why) = not-zero why
 
 fill-back : ReadBack noFill flatFill
 unfolding flatFill
-fill-back = record { number = λ f. f .number; record-at = λ f. f .at; values = λ f. record { adjusted = f .adjusted; measure = f .measure; prover = f .prover; ccts = f .ccts; drawn = f .drawn }; number-is = λ t. refl; record-is = λ t. refl; values-are = λ t. refl }
+fill-back =
+    record {
+      number = λ f. f .number;
+      record-at = λ f. f .at;
+      values = λ f. record { adjusted = f .adjusted; measure = f .measure; prover = f .prover; ccts = f .ccts; drawn = f .drawn };
+      number-is = λ t. refl;
+      record-is = λ t. refl;
+      values-are = λ t. refl;
+    }
 
 pub fill-loses-nothing : (a b : FillAnswer) → flatFill (toldFill a) ≡ flatFill (toldFill b) → a ≡ b
 fill-loses-nothing = loses-nothing fill-back fill-one fill-numbered
@@ -145,7 +169,15 @@ draw-numbered (drawn.Refused why) = not-zero why
 
 draw-back : ReadBack noBase flatDraw
 unfolding flatDraw
-draw-back = record { number = λ f. f .number; record-at = λ f. f .at; values = λ f. record { base = f .base; barrels = f .barrels; first = f .first }; number-is = λ t. refl; record-is = λ t. refl; values-are = λ t. refl }
+draw-back =
+    record {
+      number = λ f. f .number;
+      record-at = λ f. f .at;
+      values = λ f. record { base = f .base; barrels = f .barrels; first = f .first };
+      number-is = λ t. refl;
+      record-is = λ t. refl;
+      values-are = λ t. refl;
+    }
 
 pub draw-loses-nothing : (a b : WaterDraw) → flatDraw (toldDraw a) ≡ flatDraw (toldDraw b) → a ≡ b
 draw-loses-nothing = loses-nothing draw-back draw-one draw-numbered
@@ -156,7 +188,15 @@ ticket-numbered (measured.Refused why) = not-zero why
 
 ticket-back : ReadBack noVolumes flatVolumes
 unfolding flatVolumes
-ticket-back = record { number = λ f. f .number; record-at = λ f. f .at; values = λ f. record { factor = f .factor; gross = f .gross; net = f .net }; number-is = λ t. refl; record-is = λ t. refl; values-are = λ t. refl }
+ticket-back =
+    record {
+      number = λ f. f .number;
+      record-at = λ f. f .at;
+      values = λ f. record { factor = f .factor; gross = f .gross; net = f .net };
+      number-is = λ t. refl;
+      record-is = λ t. refl;
+      values-are = λ t. refl;
+    }
 
 pub ticket-loses-nothing : (a b : Measured) → flatVolumes (toldTicket a) ≡ flatVolumes (toldTicket b) → a ≡ b
 ticket-loses-nothing = loses-nothing ticket-back ticket-one ticket-numbered
@@ -168,7 +208,15 @@ live-numbered (live.Refused why) = not-zero why
 
 live-back : ReadBack noReading flatLive
 unfolding flatLive
-live-back = record { number = λ f. f .number; record-at = λ f. f .at; values = λ f. record { tenths = f .tenths; psi = f .psi }; number-is = λ t. refl; record-is = λ t. refl; values-are = λ t. refl }
+live-back =
+    record {
+      number = λ f. f .number;
+      record-at = λ f. f .at;
+      values = λ f. record { tenths = f .tenths; psi = f .psi };
+      number-is = λ t. refl;
+      record-is = λ t. refl;
+      values-are = λ t. refl;
+    }
 
 pub live-loses-nothing : (a b : Live) → flatLive (toldLive a) ≡ flatLive (toldLive b) → a ≡ b
 live-loses-nothing = loses-nothing live-back live-one live-numbered
@@ -190,7 +238,15 @@ take-numbered (handout.Refused why) = not-zero why
 
 take-back : ReadBack noHandout flatTaken
 unfolding flatTaken
-take-back = record { number = λ f. f .number; record-at = λ f. f .at; values = λ f. record { shipper = f .shipper; number = f .request }; number-is = λ t. refl; record-is = λ t. refl; values-are = λ t. refl }
+take-back =
+    record {
+      number = λ f. f .number;
+      record-at = λ f. f .at;
+      values = λ f. record { shipper = f .shipper; number = f .request };
+      number-is = λ t. refl;
+      record-is = λ t. refl;
+      values-are = λ t. refl;
+    }
 
 pub take-loses-nothing : (a b : Handout) → flatTaken (toldTake a) ≡ flatTaken (toldTake b) → a ≡ b
 take-loses-nothing = loses-nothing take-back handout-one take-numbered

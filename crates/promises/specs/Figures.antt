@@ -134,6 +134,12 @@ pub record Besides : Type 0 where
   -- one pulse against a K of 1,000,000.000 indicates nothing; half the pulses, twice the factor
   pub no-volume : workedOf prover 1000000000 (run 1) 3 ≡ refused 7 3
   pub no-factor : workedOf prover 10000000 (run 100000) 3 ≡ refused 8 3
+  -- 'Easy slips': taking the tightest five instead of the first; dividing the spread by the mean
+  pub first-not-tightest : firstGroup 5 5 (10005 ∷ 10000 ∷ 10000 ∷ 10000 ∷ 10000 ∷ 10000 ∷ []) ≡ some 0
+  pub by-smallest-not-mean : qualifies 5 (9999 ∷ 10004 ∷ 10004 ∷ 10004 ∷ 10004 ∷ []) ≡ false
+  -- a mean whose half goes up, and one of values that add up to more than 64 bits
+  pub half-goes-up : meanOf (10000 ∷ 10001 ∷ []) ≡ 10001
+  pub wide-mean : meanOf (18446744073709551615 ∷ 18446744073709551615 ∷ 18446744073709551612 ∷ []) ≡ 18446744073709551614
   -- 'The report writer alone ..: 14, 22, 15'
   pub buffer-first : writeOf 31 0 6 2 (fiveAt six 1) ≡ refused 14 0
   pub number-next : writeOf 32 0 4 2 (fiveAt six 1) ≡ refused 22 0

@@ -9,7 +9,7 @@ use Rattle.ranges.specs.Table.{runFactorOk, runsOk}
 use Rattle.refusals.specs.Table.{numberOf, recordOf}
 use Rattle.refusals.specs.Told.{Told, done, refused, demand, orElse, judged}
 use Rattle.group.specs.Mean.{meanOf}
-use Rattle.report.specs.Record.{listOf, fieldsOf, bytesOfReport}
+use Rattle.report.specs.Record.{listOf, fieldsOf}
 use Rattle.report.specs.declared.Answer.{Answer}
 use Rattle.report.specs.declared.Answer.the-variants.{Fields, Refused}
 use Rattle.report.specs.declared.Factors.{Factors}

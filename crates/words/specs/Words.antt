@@ -1,5 +1,5 @@
 -- docs/LINES.md: 'an entry's name and its operands, separated by single spaces'. A space is byte 32.
-use mathlib.Core.Bool.{Bool, cond}
+use mathlib.Core.Bool.{cond}
 use mathlib.Core.List.{List, [], _∷_}
 use Prim.Native.Nat.{ℕ, zero, suc, _+_}
 use lib.Dec.{eqb}

@@ -14,13 +14,17 @@ use Rattle.draw.proofs.decide.Statement.{statement}
 use Rattle.draw.proofs.decide.Tie as tie
 
 abbrev volumes : tie.After-known-told → List ℕ
-volumes c = c .before .before .before .before .before .args .volumes .now
+volumes c =
+    let a = c .before .before .before .before .before .args in
+    a .volumes .now
 
 place : (c : tie.After-known-told) → firstGroup 2 3 (volumes c) ≡ some (c .before .found .given .0 .0)
 place c = sym (c .before .before .before .first-group .ensures) ∙ ap placeOf (c .before .found .given .1)
 
 inside : (c : tie.After-known-told) → (c .before .found .given .0 .0 + 3 ≤ length (volumes c)) × (length (volumes c) ≤ 20)
-inside c = (first-found 2 3 (volumes c) (place c) .within, c .before .before .before .before .before .pre)
+inside c =
+    let p = c .before .before .before .before .before in
+    (first-found 2 3 (volumes c) (place c) .within, p .pre)
 
 returns : tie.Need-returns
 unfolding baseOf

@@ -40,12 +40,15 @@ module _ (a b : ℕ) (fa : a < 2 ^ 64) (fb : b < 2 ^ 64) where
   upper-fits m n = carried-twice _ m n (digits (high fa) (high fb))
 
   -- the two words that the code gives, in the columns' own names
-  words-of : (low middle next : ℕ) → low ≡ a % 4294967296 * (b % 4294967296) → middle ≡ a / 4294967296 * (b % 4294967296) + low / 4294967296 → next ≡ middle % 4294967296 + a % 4294967296 * (b / 4294967296) → record { hi = a / 4294967296 * (b / 4294967296) + middle / 4294967296 + next / 4294967296; lo = next % 4294967296 * 4294967296 + low % 4294967296 } ≡ wideOf (a * b)
+  words-of : (low middle next : ℕ) → low ≡ a % 4294967296 * (b % 4294967296) → middle ≡ a / 4294967296 * (b % 4294967296) + low / 4294967296
+      → next ≡ middle % 4294967296 + a % 4294967296 * (b / 4294967296)
+      → record { hi = a / 4294967296 * (b / 4294967296) + middle / 4294967296 + next / 4294967296; lo = next % 4294967296 * 4294967296 + low % 4294967296 } ≡ wideOf (a * b)
   words-of low middle next el em en =
       sym
       (ap wideOf
       (sym (λ i. div-add-mod' a 4294967296 i * div-add-mod' b 4294967296 i)
-      ∙ by-columns 4294967296 (a % 4294967296) (a / 4294967296) (b % 4294967296) (b / 4294967296) (low / 4294967296) (low % 4294967296) (middle / 4294967296) (middle % 4294967296) (next / 4294967296) (next % 4294967296) (sym (div-add-mod' low 4294967296 ∙ el)) (sym (div-add-mod' middle 4294967296 ∙ em)) (sym (div-add-mod' next 4294967296 ∙ en)))
+      ∙ by-columns 4294967296 (a % 4294967296) (a / 4294967296) (b % 4294967296) (b / 4294967296) (low / 4294967296) (low % 4294967296) (middle / 4294967296) (middle % 4294967296) (next / 4294967296)
+      (next % 4294967296) (sym (div-add-mod' low 4294967296 ∙ el)) (sym (div-add-mod' middle 4294967296 ∙ em)) (sym (div-add-mod' next 4294967296 ∙ en)))
       ∙ words-one (a / 4294967296 * (b / 4294967296) + middle / 4294967296 + next / 4294967296) (omega arith))
 
 mul-low : tie.Need-mul-low
@@ -70,7 +73,11 @@ add-t12 : tie.Need-add-t12
 add-t12 c = record { fits = carried _ _ (digits (high (c .fits .a .fits)) (high (c .fits .b .fits))) (middle-fits (c .args .a) (c .args .b) (c .fits .a .fits) (c .fits .b .fits)) }
 
 add-t14 : tie.Need-add-t14
-add-t14 c = record { fits = upper-fits (c .args .a) (c .args .b) (c .fits .a .fits) (c .fits .b .fits) _ _ (middle-fits (c .args .a) (c .args .b) (c .fits .a .fits) (c .fits .b .fits)) (next-fits (c .args .a) (c .args .b) (c .fits .a .fits) (c .fits .b .fits) _) }
+add-t14 c =
+    record {
+      fits = upper-fits (c .args .a) (c .args .b) (c .fits .a .fits) (c .fits .b .fits) _ _ (middle-fits (c .args .a) (c .args .b) (c .fits .a .fits) (c .fits .b .fits))
+          (next-fits (c .args .a) (c .args .b) (c .fits .a .fits) (c .fits .b .fits) _);
+    }
 
 returns : tie.Need-returns
 returns c = words-of (c .args .a) (c .args .b) (c .fits .a .fits) (c .fits .b .fits) _ _ _ refl refl refl

@@ -73,7 +73,8 @@ product c =
     }
 
 -- the code's numerator is the paper's
-numerator : (c : tie.After-coefficient) → 100000000 + above (c .before) * c .coefficient .result - 1600 * c .coefficient .result ≡ natAbs (pos 100000000 +ℤ (start (c .before) .args .t -ℤ pos 600) *ℤ pos (coefficientOf (start (c .before) .args .metal)))
+numerator : (c : tie.After-coefficient) → 100000000 + above (c .before) * c .coefficient .result - 1600 * c .coefficient .result ≡ natAbs
+    (pos 100000000 +ℤ (start (c .before) .args .t -ℤ pos 600) *ℤ pos (coefficientOf (start (c .before) .args .metal)))
 numerator c = (λ i. 100000000 + above-is (c .before) i * c .coefficient .ensures i - 1600 * c .coefficient .ensures i) ∙ sym (parts _ (small (c .before)) (warmth (c .before)))
 
 add-above : tie.Need-add-above

@@ -36,7 +36,8 @@ returns-3 : tie.Need-returns-3 Inv-loop μ-loop
 returns-3 c =
     let l = c .before .before .before .before .loop in
     let a = c .before .before .before .before .before .before .before .before .args in
-    sym (place-hit (qualifiesAt (a .limit) (a .size) (a .values .now)) (length (a .values .now) + 1 - a .size) (l .at) (omega arith) (part-qualifies (a .limit) (a .size) (a .values .now) (l .at) (c .before .is-group .ensures) (c .if3 .taken)) (l .inv))
+    sym (place-hit (qualifiesAt (a .limit) (a .size) (a .values .now)) (length (a .values .now) + 1 - a .size) (l .at) (omega arith)
+    (part-qualifies (a .limit) (a .size) (a .values .now) (l .at) (c .before .is-group .ensures) (c .if3 .taken)) (l .inv))
 
 loop-again : tie.Need-loop-again Inv-loop μ-loop
 loop-again c =

@@ -22,7 +22,8 @@ sub-product : tie.Need-sub-product
 sub-product c = omega (arith, c .before .find-extremes .ensures, smallest-at-most-largest (c .before .before .before .before .args .values .now))
 
 -- the two products, in two words each, compare as the test does
-compared : (limit : ℕ) (xs : List ℕ) (low high : ℕ) (spread allowed : Wide) → 0 < length xs → low ≡ smallest xs → high ≡ largest xs → spread ≡ wideOf ((high - low) * 10000) → allowed ≡ wideOf (limit * low) → leb (valueOf spread) (valueOf allowed) ≡ qualifies limit xs
+compared : (limit : ℕ) (xs : List ℕ) (low high : ℕ) (spread allowed : Wide) → 0 < length xs → low ≡ smallest xs → high ≡ largest xs → spread ≡ wideOf ((high - low) * 10000)
+    → allowed ≡ wideOf (limit * low) → leb (valueOf spread) (valueOf allowed) ≡ qualifies limit xs
 compared limit xs low high spread allowed h is-low is-high is-spread is-allowed =
     (λ i. leb ((ap valueOf is-spread ∙ value-wide ((high - low) * 10000)) i) ((ap valueOf is-allowed ∙ value-wide (limit * low)) i))
     ∙ (λ i. leb ((is-high i - is-low i) * 10000) (limit * is-low i))

@@ -1,6 +1,5 @@
 -- `hex::are_bytes` meets its contract.
 use mathlib.Core.Path.{sym, _∙_}
-use Prim.Native.Nat.{_-_}
 use borrow.Author.Needs.{needs}
 use Rattle.hex.specs.Hex.{areBytes}
 use Rattle.hex.proofs.are_bytes.Statement.{statement}

@@ -19,10 +19,16 @@ loop-holds : tie.Need-loop-holds Inv-loop μ-loop
 loop-holds c = (refl, omega arith)
 
 returns : tie.Need-returns Inv-loop μ-loop
-returns c = let l = c .before .before .before .before .loop in let w = c .before .before .before .before .before .before .args .word .now in let h : 15 < hexOf (getD w (l .i) 0) = omega (arith, c .before .value-hex .ensures .0) in sym (l .inv .0 ∙ all-stop w (l .i) (omega arith) h)
+returns c =
+    let l = c .before .before .before .before .loop in
+    let w = c .before .before .before .before .before .before .args .word .now in
+    let h : 15 < hexOf (getD w (l .i) 0) = omega (arith, c .before .value-hex .ensures .0) in sym (l .inv .0 ∙ all-stop w (l .i) (omega arith) h)
 
 loop-again : tie.Need-loop-again Inv-loop μ-loop
-loop-again c = let l = c .before .before .before .before .loop in let w = c .before .before .before .before .before .before .args .word .now in let h : hexOf (getD w (l .i) 0) ≤ 15 = omega (arith, c .before .value-hex .ensures .0) in (l .inv .0 ∙ all-step w (l .i) (omega arith) h, omega arith)
+loop-again c =
+    let l = c .before .before .before .before .loop in
+    let w = c .before .before .before .before .before .before .args .word .now in
+    let h : hexOf (getD w (l .i) 0) ≤ 15 = omega (arith, c .before .value-hex .ensures .0) in (l .inv .0 ∙ all-step w (l .i) (omega arith) h, omega arith)
 
 returns-2 : tie.Need-returns-2 Inv-loop μ-loop
 returns-2 c = let l = c .before .loop in let w = c .before .before .before .args .word .now in sym (l .inv .0 ∙ all-end w (l .i) (omega arith))

@@ -1,5 +1,4 @@
 -- `hex::is_dash` meets its contract.
-use Prim.Native.Nat.{_-_}
 use borrow.Author.Needs.{needs}
 use Rattle.hex.specs.Hex.{isDash}
 use Rattle.octets.specs.Octets.{byteAt}

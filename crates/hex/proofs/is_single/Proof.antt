@@ -1,5 +1,4 @@
 -- `hex::is_single` meets its contract.
-use Prim.Native.Nat.{_-_}
 use borrow.Author.Needs.{needs}
 use Rattle.hex.specs.Hex.{isSingle}
 use Rattle.hex.proofs.is_single.Statement.{statement}

@@ -1,6 +1,5 @@
 -- `hex::spell_hex` meets its contract.
 use mathlib.Core.Path.{sym}
-use Prim.Native.Nat.{_-_}
 use borrow.Author.Needs.{needs}
 use borrow.Author.Tests.{lt-ltb, le-ltb}
 use Rattle.hex.specs.Hex.{glyph}

@@ -1,6 +1,5 @@
 -- `hex::value_hex` meets its contract.
 use mathlib.Core.Path.{sym}
-use Prim.Native.Nat.{_-_}
 use native.Mathlib.Omega.{arith}
 use borrow.Author.Needs.{needs}
 use Rattle.hex.proofs.Hex.{hex-digit, hex-letter, hex-low, hex-between, hex-high}

@@ -1,5 +1,4 @@
 -- `numerals::is_ill_led` meets its contract.
-use Prim.Native.Nat.{_-_}
 use borrow.Author.Needs.{needs}
 use Rattle.numerals.specs.Numbers.{isIllLed}
 use Rattle.octets.specs.Octets.{byteAt}

@@ -1,5 +1,4 @@
 -- `numerals::negate` meets its contract: the complement of one less is the number below zero.
-use Prim.Native.Nat.{_-_}
 use borrow.Author.Needs.{needs}
 use Rattle.numerals.specs.Numbers.{negated, toldSigned}
 use Rattle.numerals.proofs.Signs.{turned-below}

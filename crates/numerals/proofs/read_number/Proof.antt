@@ -24,14 +24,29 @@ loop-holds c = let a = c .before .before .before .args in (omega arith, (omega a
 
 returns-2 : tie.Need-returns-2 Inv-loop μ-loop
 unfolding told numberOf upTo
-returns-2 c = let l = c .before .before .before .before .loop in let a = c .before .before .before .before .before .before .before .before .args in let w = a .word .now in let d = c .before .value-digit .ensures .0 in let h : 9 < digitOf (getD w (l .i) 0) = omega arith in sym (ap (upTo (a .most)) (l .inv .1 .1 ∙ no-digit (l .value) w (l .i) (omega arith) h))
+returns-2 c =
+    let l = c .before .before .before .before .loop in
+    let a = c .before .before .before .before .before .before .before .before .args in
+    let w = a .word .now in
+    let d = c .before .value-digit .ensures .0 in
+    let h : 9 < digitOf (getD w (l .i) 0) = omega arith in sym (ap (upTo (a .most)) (l .inv .1 .1 ∙ no-digit (l .value) w (l .i) (omega arith) h))
 
 returns-3 : tie.Need-returns-3 Inv-loop μ-loop
 unfolding told numberOf
-returns-3 c = let l = c .before .before .before .before .before .loop in let a = c .before .before .before .before .before .before .before .before .before .args in let w = a .word .now in let d = c .before .before .value-digit .ensures .0 in let h : digitOf (getD w (l .i) 0) ≤ 9 = omega arith in sym (ap (upTo (a .most)) (l .inv .1 .1 ∙ one-digit (l .value) w (l .i) (omega arith) h) ∙ too-large (a .most) (10 * l .value + digitOf (getD w (l .i) 0)) (drop (l .i + 1) w) (omega arith))
+returns-3 c =
+    let l = c .before .before .before .before .before .loop in
+    let a = c .before .before .before .before .before .before .before .before .before .args in
+    let w = a .word .now in
+    let d = c .before .before .value-digit .ensures .0 in let h : digitOf (getD w (l .i) 0) ≤ 9 = omega arith in
+    sym (ap (upTo (a .most)) (l .inv .1 .1 ∙ one-digit (l .value) w (l .i) (omega arith) h) ∙ too-large (a .most) (10 * l .value + digitOf (getD w (l .i) 0)) (drop (l .i + 1) w) (omega arith))
 
 loop-again : tie.Need-loop-again Inv-loop μ-loop
-loop-again c = let l = c .before .before .before .before .before .loop in let a = c .before .before .before .before .before .before .before .before .before .args in let w = a .word .now in let d = c .before .before .value-digit .ensures .0 in let h : digitOf (getD w (l .i) 0) ≤ 9 = omega arith in (omega arith, (omega arith, l .inv .1 .1 ∙ one-digit (l .value) w (l .i) (omega arith) h ∙ ap (λ (n : ℕ). goOn (10 * l .value + n) (drop (l .i + 1) w)) (sym d)))
+loop-again c =
+    let l = c .before .before .before .before .before .loop in
+    let a = c .before .before .before .before .before .before .before .before .before .args in
+    let w = a .word .now in
+    let d = c .before .before .value-digit .ensures .0 in let h : digitOf (getD w (l .i) 0) ≤ 9 = omega arith in
+    (omega arith, (omega arith, l .inv .1 .1 ∙ one-digit (l .value) w (l .i) (omega arith) h ∙ ap (λ (n : ℕ). goOn (10 * l .value + n) (drop (l .i + 1) w)) (sym d)))
 
 returns-4 : tie.Need-returns-4 Inv-loop μ-loop
 unfolding told numberOf

@@ -19,10 +19,16 @@ undashed : (c : tie.Else1) → getD (c .before .before .before .args .word .now)
 unfolding byteAt
 undashed c e = c .if1 .left (c .before .byte-at .ensures ∙ e)
 
-below-is : (c : tie.After-known-told) → numberOf 32768 (drop 1 (c .before .before .before .before .before .before .before .before .args .word .now)) ≡ some (c .before .below .given .0 .0)
+abbrev below-start : tie.After-known-told → tie.Start
+below-start c = c .before .before .before .before .before .before .before .before
+
+abbrev above-start : tie.After-known-told2 → tie.Start
+above-start c = c .before .before .before .before .before .before .before
+
+below-is : (c : tie.After-known-told) → numberOf 32768 (drop 1 (below-start c .args .word .now)) ≡ some (c .before .below .given .0 .0)
 below-is c = valued 32768 _ _ _ _ (c .before .before .before .read-number .ensures) (c .before .before .before .before .pass-first .ensures) (c .before .below .given .1)
 
-above-is : (c : tie.After-known-told2) → numberOf 32767 (c .before .before .before .before .before .before .before .args .word .now) ≡ some (c .before .number .given .0 .0)
+above-is : (c : tie.After-known-told2) → numberOf 32767 (above-start c .args .word .now) ≡ some (c .before .number .given .0 .0)
 above-is c = valued 32767 _ _ _ _ (c .before .before .before .read-number2 .ensures) refl (c .before .number .given .1)
 
 negate-requires : tie.Need-negate-requires
@@ -32,22 +38,33 @@ enum-told : tie.Need-enum-told
 enum-told c = search needs
 
 returns : tie.Need-returns
-returns c = c .negate .ensures ∙ ap negated (sym (below-is (c .before))) ∙ sym (taken-signed (c .before .before .before .before .before .before .before .before .before .args .word .now) (dashed (c .before .before .before .before .before .before)))
+returns c =
+    let a = c .before .before .before .before .before .before .before .before .before .args in
+    let p = c .before .before .before .before .before .before in
+    c .negate .ensures ∙ ap negated (sym (below-is (c .before))) ∙ sym (taken-signed (a .word .now) (dashed (p)))
 
 returns-2 : tie.Need-returns-2
 unfolding toldSigned negated
-returns-2 c = sym (taken-signed (c .before .before .before .before .before .before .before .args .word .now) (dashed (c .before .before .before .before)) ∙ ap negated (unvalued 32768 _ _ _ (c .before .before .read-number .ensures) (c .before .before .before .pass-first .ensures) (c .enum-told .given .1)))
+returns-2 c =
+    let a = c .before .before .before .before .before .before .before .args in
+    sym (taken-signed (a .word .now) (dashed (c .before .before .before .before))
+    ∙ ap negated (unvalued 32768 _ _ _ (c .before .before .read-number .ensures) (c .before .before .before .pass-first .ensures) (c .enum-told .given .1)))
 
 cast-t11 : tie.Need-cast-t11
 cast-t11 c = record { sfits = omega (arith, number-fits 32767 _ _ (above-is c)) }
 
 returns-3 : tie.Need-returns-3
 unfolding toldSigned
-returns-3 c = held-is (c .before .number .given .0 .0) (number-fits 32767 _ _ (above-is c)) ∙ ap asItIs (sym (above-is c)) ∙ sym (left-signed (c .before .before .before .before .before .before .before .args .word .now) (undashed (c .before .before .before .before)))
+returns-3 c =
+    let a = c .before .before .before .before .before .before .before .args in
+    held-is (c .before .number .given .0 .0) (number-fits 32767 _ _ (above-is c)) ∙ ap asItIs (sym (above-is c))
+    ∙ sym (left-signed (a .word .now) (undashed (c .before .before .before .before)))
 
 returns-4 : tie.Need-returns-4
 unfolding toldSigned asItIs
-returns-4 c = sym (left-signed (c .before .before .before .before .before .before .args .word .now) (undashed (c .before .before .before)) ∙ ap asItIs (unvalued 32767 _ _ _ (c .before .before .read-number2 .ensures) refl (c .enum-told2 .given .1)))
+returns-4 c =
+    let a = c .before .before .before .before .before .before .args in
+    sym (left-signed (a .word .now) (undashed (c .before .before .before)) ∙ ap asItIs (unvalued 32767 _ _ _ (c .before .before .read-number2 .ensures) refl (c .enum-told2 .given .1)))
 
 pub read-signed-spec : {M : Type 1} → statement M
 read-signed-spec =

@@ -1,6 +1,5 @@
 -- `numerals::value_digit` meets its contract.
 use mathlib.Core.Path.{sym}
-use Prim.Native.Nat.{_-_}
 use native.Mathlib.Omega.{arith}
 use borrow.Author.Needs.{needs}
 use Rattle.numerals.proofs.Numbers.{digit-is, digit-low, digit-high}

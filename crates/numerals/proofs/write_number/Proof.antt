@@ -10,15 +10,19 @@ use borrow.Author.Needs.{needs}
 use Rattle.numerals.proofs.write_number.Statement.{statement}
 use Rattle.numerals.proofs.write_number.Tie as tie
 
-text-is : (c : tie.After-slice-known2) → take (c .before .before .before .before .before .decimal .result) (c .before .before .before .before .before .decimal .last .1 .0) ≡ printed (c .before .before .before .before .before .before .before .before .args .n)
-text-is c =
-    let d = c .before .before .before .before .before .decimal in
-    d .ensures .1 .1 ∙ spelt (d .result) (c .before .before .before .before .before .before .before .before .args .n) (d .ensures .1 .0) (omega arith)
+abbrev decimals : tie.After-slice-known2 → tie.After-decimal
+decimals c = c .before .before .before .before .before
+
+abbrev start : tie.After-slice-known2 → tie.Start
+start c = c .before .before .before .before .before .before .before .before
+
+text-is : (c : tie.After-slice-known2) → take (decimals c .decimal .result) (decimals c .decimal .last .1 .0) ≡ printed (start c .args .n)
+text-is c = let d = decimals c .decimal in d .ensures .1 .1 ∙ spelt (d .result) (start c .args .n) (d .ensures .1 .0) (omega arith)
 
 returns : tie.Need-returns
 returns c =
     let t = text-is c in
-    let a = c .before .before .before .before .before .before .before .before .args in
+    let a = start c .args in
     (c .before .before .write-text .ensures .0 ∙ ap (placeAfter (a .out .now) (a .at)) t, c .before .before .write-text .ensures .1 ∙ ap (writtenAt (a .out .now) (a .at)) t)
 
 pub write-number-spec : {M : Type 1} → statement M

@@ -11,10 +11,28 @@ use Rattle.numerals.proofs.write_signed.Statement.{statement}
 use Rattle.numerals.proofs.write_signed.Tie as tie
 
 returns : tie.Need-returns
-returns c = let a = c .before .before .before .before .before .before .before .args in let s = machine-above (a .out .now) (a .at) (c .before .before .before .before .measure .result) (c .before .before .before .before .before .before .before .fits .n) (c .before .before .before .before .before .if1 .taken) (c .before .before .before .before .measure .ensures) in (c .before .before .write-number .ensures .0 ∙ s .place-is, c .before .before .write-number .ensures .1 ∙ s .left-is)
+returns c =
+    let p = c .before .before .before .before .before .before .before in
+    let p′ = c .before .before .before .before .before in
+    let a = p .args in
+    let s = machine-above (a .out .now) (a .at) (c .before .before .before .before .measure .result) (p .fits .n)
+    (p′ .if1 .taken) (c .before .before .before .before .measure .ensures) in
+    (c .before .before .write-number .ensures .0 ∙ s .place-is, c .before .before .write-number .ensures .1 ∙ s .left-is)
 
 returns-2 : tie.Need-returns-2
-returns-2 c = let a = c .before .before .before .before .before .before .before .before .before .before .before .before .args in let m = c .before .before .before .before .measure2 .result in let t = c .before .before .before .before .before .before .before .write-text in let s = machine-below (a .out .now) (a .at) m (c .before .before .before .before .before .before .before .before .before .before .before .before .fits .n) (c .before .before .before .before .before .before .before .before .before .before .if1 .left) (c .before .before .before .before .measure2 .ensures) in (c .before .before .write-number2 .ensures .0 ∙ ap (λ (l : List ℕ). placeAfter l (t .result) (printed m)) (t .ensures .1) ∙ ap (λ (p : ℕ). placeAfter (writtenAt (a .out .now) (a .at) dash) p (printed m)) (t .ensures .0) ∙ s .place-is, c .before .before .write-number2 .ensures .1 ∙ ap (λ (l : List ℕ). writtenAt l (t .result) (printed m)) (t .ensures .1) ∙ ap (λ (p : ℕ). writtenAt (writtenAt (a .out .now) (a .at) dash) p (printed m)) (t .ensures .0) ∙ s .left-is)
+returns-2 c =
+    let p′ = c .before .before .before .before .before .before .before .before .before .before .before .before in
+    let p′′ = c .before .before .before .before .before .before .before .before .before .before in
+    let a = p′ .args in
+    let m = c .before .before .before .before .measure2 .result in
+    let t = c .before .before .before .before .before .before .before .write-text in
+    let s = machine-below (a .out .now) (a .at) m (p′ .fits .n)
+    (p′′ .if1 .left) (c .before .before .before .before .measure2 .ensures) in (
+      c .before .before .write-number2 .ensures .0 ∙ ap (λ (l : List ℕ). placeAfter l (t .result) (printed m)) (t .ensures .1)
+          ∙ ap (λ (p : ℕ). placeAfter (writtenAt (a .out .now) (a .at) dash) p (printed m)) (t .ensures .0) ∙ s .place-is,
+      c .before .before .write-number2 .ensures .1
+          ∙ ap (λ (l : List ℕ). writtenAt l (t .result) (printed m)) (t .ensures .1) ∙ ap (λ (p : ℕ). writtenAt (writtenAt (a .out .now) (a .at) dash) p (printed m)) (t .ensures .0) ∙ s .left-is,
+    )
 
 pub write-signed-spec : {M : Type 1} → statement M
 write-signed-spec =

@@ -46,7 +46,9 @@ returns-2 c =
     (is ∙ sym (orElse-next _ (settings-fine d) ∙ orElse-first _ (sym (c .before .before .judge-records .ensures) ∙ is)), refl, λ clear. absurd (fault-not-fine (sym is ∙ clear)))
 
 work-out-runs-requires : tie.Need-work-out-runs-requires
-work-out-runs-requires c κs = let h = settled (c .before .before .before) in (h .proverFits, h .kFits, h .most, fields-fit (now (c .before .before .before .before .before .before .before .args .records)) _ (records-fine c))
+work-out-runs-requires c κs =
+    let a = c .before .before .before .before .before .before .before .args in
+    let h = settled (c .before .before .before) in (h .proverFits, h .kFits, h .most, fields-fit (now (a .records)) _ (records-fine c))
 
 returns-3 : tie.Need-returns-3
 unfolding inputFault recordsIn

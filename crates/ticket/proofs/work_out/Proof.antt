@@ -20,7 +20,9 @@ abbrev order : Ticket → Fault
 order t = demand (leb (t .opening) (t .closing)) 11
 
 abbrev ticket : tie.After-or-else → Ticket
-ticket c = c .before .before .before .before .before .args .ticket
+ticket c =
+    let a = c .before .before .before .before .before .args in
+    a .ticket
 
 judged-by : (c : tie.After-or-else) → faultOf (c .or-else .result) ≡ orElse (fields (ticket c)) (order (ticket c))
 judged-by c =

@@ -1,5 +1,4 @@
 -- `words::pass_word` meets its contract.
-use Prim.Native.Nat.{_-_}
 use native.Mathlib.Omega.{arith}
 use borrow.Author.Needs.{needs}
 use Rattle.words.proofs.Words.{passed, passed-last}

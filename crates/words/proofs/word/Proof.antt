@@ -19,10 +19,17 @@ loop-holds : tie.Need-loop-holds Inv-loop μ-loop
 loop-holds c = let a = c .before .args in (word-start (a .n) (a .s .now), omega arith)
 
 loop-again : tie.Need-loop-again Inv-loop μ-loop
-loop-again c = let l = c .before .before .loop in let a = c .before .before .before .before .args in (l .inv .0 ∙ word-step (a .n) (l .i) (drop (l .at) (a .s .now)) (omega arith) ∙ ap (wordOf (a .n - (l .i + 1))) (sym (c .pass-word .ensures .0)), omega arith)
+loop-again c =
+    let l = c .before .before .loop in let a = c .before .before .before .before .args in
+    (l .inv .0 ∙ word-step (a .n) (l .i) (drop (l .at) (a .s .now)) (omega arith) ∙ ap (wordOf (a .n - (l .i + 1))) (sym (c .pass-word .ensures .0)), omega arith)
 
 returns : tie.Need-returns Inv-loop μ-loop
-returns c = let l = c .before .before .before .loop in let a = c .before .before .before .before .before .args in let t = drop (l .at) (a .s .now) in let k : c .before .end-word .result - l .at ≡ length (firstWord t) = omega (arith, c .before .end-word .ensures .0) in ap (λ (m : ℕ). take m t) k ∙ taken t ∙ sym (word-last (a .n) (l .i) t (omega arith)) ∙ sym (l .inv .0)
+returns c =
+    let l = c .before .before .before .loop in
+    let a = c .before .before .before .before .before .args in
+    let t = drop (l .at) (a .s .now) in
+    let k : c .before .end-word .result - l .at ≡ length (firstWord t) = omega (arith, c .before .end-word .ensures .0) in
+    ap (λ (m : ℕ). take m t) k ∙ taken t ∙ sym (word-last (a .n) (l .i) t (omega arith)) ∙ sym (l .inv .0)
 
 pub word-spec : {M : Type 1} → statement M
 word-spec =

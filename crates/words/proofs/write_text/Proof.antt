@@ -1,6 +1,5 @@
 -- `words::write_text` meets its contract: what does not fit is not written.
 use mathlib.Core.Path.{sym}
-use Prim.Native.Nat.{_-_}
 use native.Mathlib.Omega.{arith}
 use borrow.Author.Needs.{needs}
 use Rattle.octets.proofs.Laws.{written-not}

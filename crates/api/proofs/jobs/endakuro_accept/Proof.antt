@@ -26,7 +26,8 @@ job c =
 asked : _≡_ {A = ℕ} 1 0 → ⊥
 asked is = omega arith
 
-begun : (c : tie.After-struct-known) → Begins 1 (proverBy (start (c .before .before .before .before) .args .prover)) (start (c .before .before .before .before) .args .k) (start (c .before .before .before .before) .args .limit) (now (start (c .before .before .before .before) .args .records)) asked (c .before .before .job .given .0 .0)
+begun : (c : tie.After-struct-known) → Begins 1 (proverBy (start (c .before .before .before .before) .args .prover)) (start (c .before .before .before .before) .args .k)
+    (start (c .before .before .before .before) .args .limit) (now (start (c .before .before .before .before) .args .records)) asked (c .before .before .job .given .0 .0)
 begun c =
     let u = c .before .before .before .before in
     let a = start u .args in

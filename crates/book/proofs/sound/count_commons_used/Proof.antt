@@ -1,5 +1,5 @@
 -- `book::sound::count_commons_used` meets its contract: each count is what the shipper has waiting, and the sum is small.
-use Prim.Native.Nat.{ℕ, _+_, _-_, _≤_, _<_}
+use Prim.Native.Nat.{ℕ, _+_, _≤_, _<_}
 use native.Mathlib.Omega.{arith}
 use Rattle.book.specs.Figures.{overShippers, lineAt, commonsUsed}
 use Rattle.book.proofs.Books.{lines-are, few-at, beyond-count}

@@ -22,8 +22,9 @@ returns c =
 returns-2 : tie.Need-returns-2
 unfolding isLineSound
 returns-2 c =
+    let p = c .before .before .before .before .before in
     let proper = sym (c .before .before .are-proper .ensures) ∙ c .before .if2 .taken in
-    rw (wide (c .before .before .before .before .before), le-leb _ _ (c .before .before .before .if1 .left), proper) (c .are-unused-zero .ensures)
+    rw (wide (p), le-leb _ _ (c .before .before .before .if1 .left), proper) (c .are-unused-zero .ensures)
 
 returns-3 : tie.Need-returns-3
 unfolding isLineSound

@@ -1,5 +1,4 @@
 -- `lines::answers::say_ok` meets its contract: the word, and the values behind it.
-use mathlib.Core.Path.{_≡_}
 use borrow.Author.Needs.{needs}
 use Rattle.lines.specs.Answers.{placeAll, writtenAll, okSpelt}
 use Rattle.lines.proofs.answers.say_ok.Statement.{statement}

@@ -1,5 +1,4 @@
 -- `lines::operands::number_at` meets its contract.
-use mathlib.Core.Path.{_≡_}
 use borrow.Author.Needs.{needs}
 use Rattle.lines.specs.Operands.{numberAt}
 use Rattle.lines.proofs.operands.number_at.Statement.{statement}

@@ -36,7 +36,9 @@ back : (c : tie.After-to-word) → toZ w16 (ofZ w16 (c .to-word .result)) ≡ c 
 back c = search needs
 
 returns : tie.Need-returns
-returns c = back c ∙ c .to-word .ensures ∙ ap inWord (c .before .round-scaled .ensures) ∙ word-from-bits (c .before .before .before .before .before)
+returns c =
+    let p = c .before .before .before .before .before in
+    back c ∙ c .to-word .ensures ∙ ap inWord (c .before .round-scaled .ensures) ∙ word-from-bits (p)
 
 returns-2 : tie.Need-returns-2
 returns-2 c =
