@@ -6,7 +6,6 @@ use Rattle.book.specs.Calls.{entered}
 use Rattle.book.specs.Figures.{ceiling, lineAt, waitingOf, put}
 use Rattle.book.specs.declared.Line.{Line}
 use Rattle.book.proofs.Calls.{Accepted, accepted}
-use Rattle.book.proofs.enter.Statement.{statement}
 use Rattle.book.proofs.enter.Tie as tie
 
 told : (c : tie.Start) → Accepted (c .args .t1) (c .args .shipper) (c .args .number)
@@ -27,7 +26,7 @@ returns c =
     let start = c .before .before in
     ap (λ (line : Line). record { lines = set (start .args .t1 .lines) (start .args .shipper) line; last = start .args .t1 .last }) (c .lengthen .ensures)
 
-pub enter-spec : {M : Type 1} → statement M
+pub enter-spec : {M : Type 1} → Rattle.book.proofs.enter.Statement.statement M
 enter-spec =
     tie.close
     (tie.spec (λ c. omega arith) (λ c. told c .call .known) lengthen-requires (λ c. omega arith) (λ c. told (c .before .before) .call .known) returns)

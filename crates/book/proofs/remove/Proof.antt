@@ -11,7 +11,6 @@ use Rattle.book.specs.declared.Line.{Line}
 use Rattle.book.proofs.Books.{SoundLine, sound-is}
 use Rattle.book.proofs.Lines.{place-tells, place-given-up}
 use Rattle.book.proofs.Lists.{givenUp}
-use Rattle.book.proofs.remove.Statement.{statement}
 use Rattle.book.proofs.remove.Tie as tie
 
 line : (c : tie.Start) → SoundLine 8 (lineAt (c .args .t1) (c .args .shipper))
@@ -47,7 +46,7 @@ returns c =
     let gone = place-given-up (lineAt (start .args .t1) (start .args .shipper)) (start .args .number) (p .result) (omega arith) (l .wide) (placed (c .before)) (p .ensures .2) (p .ensures .3 (placed (c .before))) in
     ap (λ (line : Line). record { lines = set (start .args .t1 .lines) (start .args .shipper) line; last = start .args .last }) (c .shorten .ensures ∙ ap lineOf gone)
 
-pub remove-spec : {M : Type 1} → statement M
+pub remove-spec : {M : Type 1} → Rattle.book.proofs.remove.Statement.statement M
 remove-spec =
     tie.close
     (tie.spec (λ c. omega arith) (λ c. c .pre .1) place-requires shorten-requires (λ c. omega arith) (λ c. c .before .before .before .pre .1) returns)

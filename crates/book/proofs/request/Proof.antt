@@ -3,7 +3,6 @@ use mathlib.Core.Path.{sym, ap, _∙_}
 use borrow.Author.Needs.{needs}
 use Rattle.refusals.specs.Verdict.{faultOf}
 use Rattle.book.specs.Calls.{requestOf, afterRequest}
-use Rattle.book.proofs.request.Statement.{statement}
 use Rattle.book.proofs.request.Tie as tie
 
 enter-requires : tie.Need-enter-requires
@@ -17,5 +16,5 @@ returns-2 : tie.Need-returns-2
 unfolding requestOf afterRequest
 returns-2 c = let found = sym (c .before .before .before .judge-request .ensures) ∙ ap faultOf (c .before .verdict .given .1) in (rw found, rw found)
 
-pub request-spec : {M : Type 1} → statement M
+pub request-spec : {M : Type 1} → Rattle.book.proofs.request.Statement.statement M
 request-spec = tie.close (tie.spec (search needs) (search needs) enter-requires (search needs) returns returns-2)

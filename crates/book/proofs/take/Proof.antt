@@ -5,7 +5,6 @@ use Rattle.refusals.specs.Told.{done}
 use Rattle.book.specs.Answers.{toldTake}
 use Rattle.book.specs.Calls.{takeOf, afterTake}
 use Rattle.book.proofs.Kept.{handed-out}
-use Rattle.book.proofs.take.Statement.{statement}
 use Rattle.book.proofs.take.Tie as tie
 
 handed : (c : tie.After-answer) → takeOf (c .before .before .before .args .book) ≡ done (record { shipper = c .answer .given .0 .0; number = c .answer .given .0 .1 .0 })
@@ -19,5 +18,5 @@ returns-2 : tie.Need-returns-2
 unfolding afterTake
 returns-2 c = let found = sym (c .before .before .judge-take .ensures) ∙ ap toldTake (c .enum-told .given .1) in (c .before .before .judge-take .ensures, rw found)
 
-pub take-spec : {M : Type 1} → statement M
+pub take-spec : {M : Type 1} → Rattle.book.proofs.take.Statement.statement M
 take-spec = tie.close (tie.spec (search needs) (search needs) (λ c κs. handed-out _ _ _ (handed (c .before))) (search needs) returns returns-2)

@@ -6,7 +6,6 @@ use Rattle.refusals.specs.Verdict.{faultOf}
 use Rattle.book.specs.Calls.{withdrawalFault, withdrawalOf, afterWithdrawal}
 use Rattle.book.proofs.Books.{is-sound}
 use Rattle.book.proofs.Calls.{granted}
-use Rattle.book.proofs.withdraw.Statement.{statement}
 use Rattle.book.proofs.withdraw.Tie as tie
 
 none : (c : tie.After-enum-told) → withdrawalFault (c .before .before .before .args .book) (c .before .before .before .args .shipper) (c .before .before .before .args .number) ≡ fine
@@ -25,5 +24,5 @@ returns-2 : tie.Need-returns-2
 unfolding withdrawalOf afterWithdrawal
 returns-2 c = let found = sym (c .before .before .before .judge-withdrawal .ensures) ∙ ap faultOf (c .before .verdict .given .1) in (rw found, rw found)
 
-pub withdraw-spec : {M : Type 1} → statement M
+pub withdraw-spec : {M : Type 1} → Rattle.book.proofs.withdraw.Statement.statement M
 withdraw-spec = tie.close (tie.spec (search needs) (search needs) remove-requires (search needs) returns returns-2)

@@ -10,7 +10,6 @@ use Rattle.refusals.specs.Told.{done}
 use Rattle.group.specs.Repeatability.{firstGroup, placeOf}
 use Rattle.group.proofs.Groups.{first-found, part-is-group}
 use Rattle.draw.specs.Base.{baseFrom, baseOf}
-use Rattle.draw.proofs.decide.Statement.{statement}
 use Rattle.draw.proofs.decide.Tie as tie
 
 abbrev volumes : tie.After-known-told → List ℕ
@@ -33,7 +32,7 @@ returns c =
     let at = k .before .found .given .0 .0 in
     rw (place k) (ap done (c .base-from .ensures ∙ ap (λ (xs : List ℕ). baseFrom xs at) (part-is-group 3 (volumes k) at)))
 
-pub decide-spec : {M : Type 1} → statement M
+pub decide-spec : {M : Type 1} → Rattle.draw.proofs.decide.Statement.statement M
 unfolding baseOf
 decide-spec =
     tie.close

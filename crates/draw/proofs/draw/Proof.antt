@@ -7,7 +7,6 @@ use lib.Seq.{length-take-le}
 use Rattle.draw.specs.Base.{baseOf}
 use Rattle.draw.specs.Answers.{drawOf}
 use Rattle.draw.proofs.Outcome.{Found, passes-found, draw-refused}
-use Rattle.draw.proofs.draw.Statement.{statement}
 use Rattle.draw.proofs.draw.Tie as tie
 
 abbrev start : tie.After-known-told → tie.Start
@@ -32,7 +31,7 @@ returns-2 c =
     let a = p .before .before .args in
     draw-refused (a .prover) (a .records .now) (p .passes .ensures .0) (v .answer2 .given .1)
 
-pub draw-spec : {M : Type 1} → statement M
+pub draw-spec : {M : Type 1} → Rattle.draw.proofs.draw.Statement.statement M
 draw-spec =
     tie.close
     (tie.spec (search needs) (search needs) (search needs) (λ c. let f = found (c .before) in omega (arith, f .few, f .places))

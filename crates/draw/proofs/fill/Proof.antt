@@ -8,7 +8,6 @@ use Rattle.draw.specs.Fill.{fillOk}
 use Rattle.draw.specs.Drawn.{figuresOf}
 use Rattle.draw.specs.Answers.{aloneFault, fillOf}
 use Rattle.draw.proofs.Sound.{alone-good}
-use Rattle.draw.proofs.fill.Statement.{statement}
 use Rattle.draw.proofs.fill.Tie as tie
 
 abbrev start : tie.After-or-else2 → tie.Start
@@ -32,7 +31,7 @@ returns c =
     let e = c .before .before in
     ap done (c .work-out .ensures ∙ ap (figuresOf (start (e .before .before) .args .metal)) (c .before .decode .ensures)) ∙ sym (judged-fine _ (nothing e))
 
-pub fill-spec : {M : Type 1} → statement M
+pub fill-spec : {M : Type 1} → Rattle.draw.proofs.fill.Statement.statement M
 unfolding fillOf
 fill-spec =
     tie.close

@@ -6,10 +6,9 @@ use borrow.Author.Needs.{needs}
 use Rattle.exact.specs.Rounding.{rounded}
 use Rattle.exact.proofs.Answers.{value-below}
 use Rattle.draw.specs.Base.{barrelsOf}
-use Rattle.draw.proofs.in_barrels.Statement.{statement}
 use Rattle.draw.proofs.in_barrels.Tie as tie
 
-pub in-barrels-spec : {M : Type 1} → statement M
+pub in-barrels-spec : {M : Type 1} → Rattle.draw.proofs.in_barrels.Statement.statement M
 unfolding barrelsOf rounded
 in-barrels-spec =
     tie.close

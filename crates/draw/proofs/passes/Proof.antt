@@ -10,7 +10,6 @@ use Rattle.draw.specs.Passes.{passCount, volumesOf}
 use Rattle.draw.specs.Answers.{drawFault, passesOf}
 use Rattle.draw.proofs.Sound.{Sound, sound}
 use Rattle.draw.proofs.Outcome.{held-by}
-use Rattle.draw.proofs.passes.Statement.{statement}
 use Rattle.draw.proofs.passes.Tie as tie
 
 abbrev start : tie.After-enum-told → tie.Start
@@ -39,7 +38,7 @@ returns-2 c =
     let is = judged-fault (passCount (a .records .now)) (sym (j .judge-draw .ensures) ∙ ap faultOf (v .verdict .given .1)) in
     (sym is, sym (held-by (a .prover) (a .records .now) is))
 
-pub passes-spec : {M : Type 1} → statement M
+pub passes-spec : {M : Type 1} → Rattle.draw.proofs.passes.Statement.statement M
 passes-spec =
     tie.close
     (tie.spec (search needs) (λ c. search needs) (λ c κs. let w = good c in (omega (arith, w .some-fills), w .few-fills))

@@ -3,7 +3,6 @@ use mathlib.Core.Path.{_≡_, sym}
 use Prim.Native.Nat.{ℕ}
 use lib.ListN.{length, replicate, length-replicate}
 use borrow.Author.Needs.{needs}
-use Rattle.endakuro.proofs.main.Statement.{statement}
 use Rattle.endakuro.proofs.main.Tie as tie
 
 zeros : (n : ℕ) → n ≡ length (replicate {A = ℕ} n 0)
@@ -21,5 +20,5 @@ second-length c = zeros 262144
 out-length : tie.Need-slice-aggregate-serve-5
 out-length c = zeros 525312
 
-pub main-spec : {M : Type 1} → statement M
+pub main-spec : {M : Type 1} → Rattle.endakuro.proofs.main.Statement.statement M
 main-spec = tie.close (tie.spec (search needs) (search needs) line-length first-length second-length out-length (search needs) (search needs))

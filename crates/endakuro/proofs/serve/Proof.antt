@@ -2,7 +2,6 @@
 use borrow.Author.Needs.{needs}
 use lib.ListN.{length}
 use mathlib.Core.Path.{_≡_}
-use Rattle.endakuro.proofs.serve.Statement.{statement}
 use Rattle.endakuro.proofs.serve.Tie as tie
 
 abbrev Inv-loop : tie.InvT-loop
@@ -12,8 +11,8 @@ Inv-loop chunk₀ line₀ first₀ second₀ out₀ book₀ held₀ turns₀ chu
 abbrev μ-loop : tie.MeasureT-loop
 μ-loop chunk₀ line₀ first₀ second₀ out₀ book₀ held₀ turns₀ chunk line first second out book held turns = turns
 
-pub serve-spec : {M : Type 1} → statement M
+pub serve-spec : {M : Type 1} → Rattle.endakuro.proofs.serve.Statement.statement M
 serve-spec =
     tie.close
-    (tie.spec Inv-loop μ-loop (search needs) (search needs) (search needs) (search needs) (search needs) (search needs) (search needs) (search needs) (search needs)
-    (search needs) (search needs) (search needs) (search needs) (search needs))
+    (tie.spec Inv-loop μ-loop (search needs) (search needs) (search needs) (search needs) (search needs) (search needs) (search needs) (search needs)
+    (search needs) (search needs) (search needs) (search needs) (search needs) (search needs))

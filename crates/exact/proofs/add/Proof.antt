@@ -2,7 +2,6 @@
 use native.Mathlib.Omega.{arith}
 use borrow.Author.Needs.{needs}
 use Rattle.exact.specs.Words.{valueOf}
-use Rattle.exact.proofs.add.Statement.{statement}
 use Rattle.exact.proofs.add.Tie as tie
 
 returns : tie.Need-returns
@@ -13,5 +12,5 @@ returns-2 : tie.Need-returns-2
 unfolding valueOf
 returns-2 c = omega arith
 
-pub add-spec : {M : Type 1} → statement M
+pub add-spec : {M : Type 1} → Rattle.exact.proofs.add.Statement.statement M
 add-spec = tie.close (tie.spec (search needs) (search needs) (search needs) (search needs) (search needs) returns returns-2)

@@ -7,7 +7,6 @@ use native.Mathlib.Omega.{arith}
 use borrow.Author.Tests.{le-leb, lt-leb, lt-ltb, le-ltb}
 use lib.Dec.{leb, ltb}
 use Rattle.exact.specs.Words.{valueOf}
-use Rattle.exact.proofs.is_at_most.Statement.{statement}
 use Rattle.exact.proofs.is_at_most.Tie as tie
 
 module _ (h h′ l l′ : ℕ) where
@@ -35,5 +34,5 @@ returns-2 c =
     let a = c .before .before .before .before .before .args in
     upper (a .a .hi) (a .b .hi) (a .a .lo) (a .b .lo) (c .before .before .if1 .left) (omega arith) (omega arith)
 
-pub is-at-most-spec : {M : Type 1} → statement M
+pub is-at-most-spec : {M : Type 1} → Rattle.exact.proofs.is_at_most.Statement.statement M
 is-at-most-spec = tie.close (tie.spec returns returns-2)

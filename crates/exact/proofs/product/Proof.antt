@@ -7,7 +7,6 @@ use borrow.Author.Needs.{needs}
 use Rattle.exact.specs.Words.{wideOf}
 use Rattle.exact.proofs.Columns.{by-columns}
 use Rattle.exact.proofs.Words.{words-one}
-use Rattle.exact.proofs.product.Statement.{statement}
 use Rattle.exact.proofs.product.Tie as tie
 
 -- the product of two digits in base 2^32, and a column's sums
@@ -82,5 +81,5 @@ add-t14 c =
 returns : tie.Need-returns
 returns c = words-of (c .args .a) (c .args .b) (c .fits .a .fits) (c .fits .b .fits) _ _ _ refl refl refl
 
-pub product-spec : {M : Type 1} → statement M
+pub product-spec : {M : Type 1} → Rattle.exact.proofs.product.Statement.statement M
 product-spec = tie.close (tie.spec mul-low mul-middle add-middle mul-next add-next mul-t10 add-t12 add-t14 (search needs) (search needs) returns)

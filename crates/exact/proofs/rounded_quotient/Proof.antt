@@ -2,7 +2,6 @@
 use native.Mathlib.Omega.{arith}
 use Rattle.exact.specs.Words.{valueOf}
 use Rattle.exact.proofs.Answers.{no-divisor, upper-too-large, kept, raised, passed}
-use Rattle.exact.proofs.rounded_quotient.Statement.{statement}
 use Rattle.exact.proofs.rounded_quotient.Tie as tie
 
 returns : tie.Need-returns
@@ -36,5 +35,5 @@ returns-5 c =
     let d = c .before .before .before .before .before .before .divide in
     raised (d .result .quotient) (d .ensures .0) (d .ensures .1) (c .before .before .before .if3 .left) (omega (arith, c .before .if4 .left, c .struct-known4 .given))
 
-pub rounded-quotient-spec : {M : Type 1} → statement M
+pub rounded-quotient-spec : {M : Type 1} → Rattle.exact.proofs.rounded_quotient.Statement.statement M
 rounded-quotient-spec = tie.close (tie.spec returns returns-2 (λ c κs. omega arith) sub-if3 returns-3 returns-4 add-t6 returns-5)

@@ -8,7 +8,6 @@ use lib.ListN.{length, getD, drop}
 use Rattle.exact.specs.Words.{valueOf, wideOf, sumOf}
 use Rattle.exact.proofs.Words.{words-of}
 use Rattle.exact.proofs.Gathering.{sum-gathered, next, finished}
-use Rattle.exact.proofs.sum.Statement.{statement}
 use Rattle.exact.proofs.sum.Tie as tie
 
 abbrev Inv-loop : tie.InvT-loop
@@ -33,7 +32,7 @@ returns c =
     let l = c .before .loop in
     words-of (l .sum) (omega arith) ∙ ap wideOf (finished sum-gathered (c .before .before .before .args .values .now) (l .i) (c .loop-test .left) (l .inv .0))
 
-pub sum-spec : {M : Type 1} → statement M
+pub sum-spec : {M : Type 1} → Rattle.exact.proofs.sum.Statement.statement M
 sum-spec =
     tie.close
     (tie.spec Inv-loop μ-loop loop-holds (λ c. omega arith) (λ c. omega arith) (λ c κs. omega arith) (λ c. omega arith) (λ c. omega arith) loop-again

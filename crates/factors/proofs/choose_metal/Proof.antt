@@ -3,7 +3,6 @@ use mathlib.Core.Path.{_≡_, sym, ap, _∙_}
 use Prim.Native.Nat.{ℕ, _≤_}
 use borrow.Author.Tests.{lt-ltb, le-ltb, eq-eqb, ne-eqb}
 use Rattle.factors.specs.Metal.{named, metalBy}
-use Rattle.factors.proofs.choose_metal.Statement.{statement}
 use Rattle.factors.proofs.choose_metal.Tie as tie
 
 -- without a certificate the name counts
@@ -43,5 +42,5 @@ unfolding named
 returns-7 c =
     sym (code-of (c .before) ∙ simp (ne-eqb _ _ (c .match .rest .0 .0 .0 .1), ne-eqb _ _ (c .match .rest .0 .0 .1), ne-eqb _ _ (c .match .rest .0 .1), ne-eqb _ _ (c .match .rest .1)))
 
-pub choose-metal-spec : {M : Type 1} → statement M
+pub choose-metal-spec : {M : Type 1} → Rattle.factors.proofs.choose_metal.Statement.statement M
 choose-metal-spec = tie.close (tie.spec returns returns-2 returns-3 returns-4 returns-5 returns-6 returns-7)

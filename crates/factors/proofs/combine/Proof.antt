@@ -11,7 +11,6 @@ use Rattle.factors.specs.Places.{digits}
 use Rattle.factors.specs.declared.Combined.the-variants.{Value}
 use Rattle.factors.proofs.Laws.{unit-large, unit-above-zero}
 use Rattle.factors.proofs.Combining.{heldBy, too-many, none-combined, by-division}
-use Rattle.factors.proofs.combine.Statement.{statement}
 use Rattle.factors.proofs.combine.Tie as tie
 
 returns : tie.Need-returns
@@ -53,7 +52,7 @@ returns-4 c = sym (ap heldBy (c .enum-told .given .1)) ∙ held-is (c .before .b
 returns-5 : tie.Need-returns-5
 returns-5 c = sym (ap heldBy (c .enum-told2 .given .1)) ∙ held-is (c .before .before)
 
-pub combine-spec : {M : Type 1} → statement M
+pub combine-spec : {M : Type 1} → Rattle.factors.proofs.combine.Statement.statement M
 combine-spec =
     tie.close
     (tie.spec returns (search needs) returns-2 (search needs) (search needs) mul-first (search needs) (search needs) mul-second (search needs)

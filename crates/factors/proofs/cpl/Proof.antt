@@ -9,7 +9,6 @@ use Rattle.factors.specs.Liquid.{liquidOk, cplFrom}
 use Rattle.factors.specs.Rounded.{cplAt}
 use Rattle.factors.specs.Answers.{told, cplOf}
 use Rattle.factors.proofs.Squeezed.{squeezed-little}
-use Rattle.factors.proofs.cpl.Statement.{statement}
 use Rattle.factors.proofs.cpl.Tie as tie
 
 fits : (c : tie.Then1) → liquidOk (c .before .before .args .liquid) ≡ true
@@ -32,5 +31,5 @@ returns-2 : tie.Need-returns-2
 unfolding cplOf
 returns-2 c = sym (judged-fault _ (demand-fails 5 (sym (c .before .is-liquid .ensures) ∙ c .if1 .left)))
 
-pub cpl-spec : {M : Type 1} → statement M
+pub cpl-spec : {M : Type 1} → Rattle.factors.proofs.cpl.Statement.statement M
 cpl-spec = tie.close (tie.spec (search needs) (search needs) (search needs) mul-squeezed sub-round round-requires returns returns-2)

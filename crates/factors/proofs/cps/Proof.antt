@@ -10,7 +10,6 @@ use Rattle.factors.specs.Prover.{pipeOk}
 use Rattle.factors.specs.Rounded.{cpsAt}
 use Rattle.factors.specs.Answers.{told, cpsOf}
 use Rattle.factors.proofs.Steel.{Loads, loads}
-use Rattle.factors.proofs.cps.Statement.{statement}
 use Rattle.factors.proofs.cps.Tie as tie
 
 -- the code's tests are the paper's ranges
@@ -52,7 +51,7 @@ returns-3 : tie.Need-returns-3
 unfolding cpsOf
 returns-3 c = sym (judged-fault _ (orElse-first _ (demand-fails 3 (sym (c .before .is-pipe .ensures) ∙ c .if1 .left))))
 
-pub cps-spec : {M : Type 1} → statement M
+pub cps-spec : {M : Type 1} → Rattle.factors.proofs.cps.Statement.statement M
 cps-spec =
     tie.close
     (tie.spec (search needs) (search needs) (search needs) (search needs) mul-stiffness (search needs) mul-round add-round round-requires returns

@@ -21,7 +21,6 @@ use Rattle.factors.specs.Fractions.{cts}
 use Rattle.factors.specs.Rounded.{ctsAt}
 use Rattle.factors.specs.Answers.{told, ctsOf}
 use Rattle.factors.proofs.Steel.{Warm, warm, parts}
-use Rattle.factors.proofs.cts.Statement.{statement}
 use Rattle.factors.proofs.cts.Tie as tie
 
 abbrev start : tie.Then2 → tie.Start
@@ -110,7 +109,7 @@ returns-3 : tie.Need-returns-3
 unfolding ctsOf
 returns-3 c = sym (judged-fault _ (orElse-first _ (demand-fails 3 (sym (c .before .is-metal .ensures) ∙ c .if1 .left))))
 
-pub cts-spec : {M : Type 1} → statement M
+pub cts-spec : {M : Type 1} → Rattle.factors.proofs.cts.Statement.statement M
 cts-spec =
     tie.close
     (tie.spec (search needs) (search needs) (search needs) (search needs) add-above cast-above mul-round add-round (search needs) sub-round

@@ -5,7 +5,6 @@ use borrow.Author.Needs.{needs}
 use denote.Ref.{now}
 use lib.ListN.{List·getD-eq-default}
 use Rattle.factors.proofs.Combining.{there}
-use Rattle.factors.proofs.factor_at.Statement.{statement}
 use Rattle.factors.proofs.factor_at.Tie as tie
 
 cast-result : tie.Need-cast-result
@@ -17,5 +16,5 @@ returns c = (there (now (c .before .before .args .factors)) (c .before .before .
 returns-2 : tie.Need-returns-2
 returns-2 c = (sym (List·getD-eq-default (now (c .before .args .factors)) 1 (c .if1 .left)), omega arith)
 
-pub factor-at-spec : {M : Type 1} → statement M
+pub factor-at-spec : {M : Type 1} → Rattle.factors.proofs.factor_at.Statement.statement M
 factor-at-spec = tie.close (tie.spec (search needs) (search needs) cast-result returns returns-2)

@@ -8,7 +8,6 @@ use Rattle.exact.specs.Quotient.{quotientOf, valueOrZero}
 use Rattle.factors.specs.Places.{digits}
 use Rattle.factors.specs.declared.Factor.the-variants.{Value}
 use Rattle.factors.proofs.Laws.{rounded-small, rounded-by-words}
-use Rattle.factors.proofs.round.Statement.{statement}
 use Rattle.factors.proofs.round.Tie as tie
 
 value : (c : tie.After-round-or-zero) → c .round-or-zero .result ≡ rounded (digits (c .before .before .args .places)) (c .before .before .args .num over c .before .before .args .den)
@@ -22,5 +21,5 @@ cast-t6 c = let a = c .before .before in omega (arith, value c, rounded-small (a
 returns : tie.Need-returns
 returns c = ap Value (value c)
 
-pub round-spec : {M : Type 1} → statement M
+pub round-spec : {M : Type 1} → Rattle.factors.proofs.round.Statement.statement M
 round-spec = tie.close (tie.spec (search needs) (search needs) cast-t6 returns)

@@ -4,11 +4,7 @@ use Prim.Native.Nat.{_^_}
 use borrow.Author.Needs.{needs}
 use Rattle.factors.specs.Places.{digits}
 use Rattle.factors.specs.declared.Places.{Places}
-use Rattle.factors.proofs.unit.Statement.{statement}
 use Rattle.factors.proofs.unit.Tie as tie
-
-enum-told : tie.Need-enum-told
-enum-told c = search needs
 
 tens : {places this : Places} → places ≡ this → 10 ^ digits this ≡ 10 ^ digits places
 tens is = sym (ap (λ (p : Places). 10 ^ digits p) is)
@@ -19,5 +15,5 @@ returns c = tens (c .enum-told .given .1)
 returns-2 : tie.Need-returns-2
 returns-2 c = tens (c .enum-told2 .given .1)
 
-pub unit-spec : {M : Type 1} → statement M
-unit-spec = tie.close (tie.spec enum-told (search needs) returns returns-2)
+pub unit-spec : {M : Type 1} → Rattle.factors.proofs.unit.Statement.statement M
+unit-spec = tie.close (tie.spec (search needs) (search needs) returns returns-2)

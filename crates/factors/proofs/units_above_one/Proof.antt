@@ -5,7 +5,6 @@ use native.Mathlib.Omega.{arith}
 use borrow.Author.Needs.{needs}
 use Rattle.factors.proofs.Laws.{unit-large, unit-above-zero}
 use Rattle.factors.proofs.Combining.{units-of-one, units-of-two, units-of-three, units-of-four, square-small, cube-small}
-use Rattle.factors.proofs.units_above_one.Statement.{statement}
 use Rattle.factors.proofs.units_above_one.Tie as tie
 
 large : (c : tie.After-unit) → c .unit .result ≤ 1000000
@@ -35,5 +34,5 @@ returns-3 c = let u = c .before .before .before in (units-of-three (u .unit .ens
 returns-4 : tie.Need-returns-4
 returns-4 c = let u = c .before .before .before in (units-of-four (u .unit .ensures) (omega arith), one-le-mul (one-le-mul (some u) (some u)) (some u))
 
-pub units-above-one-spec : {M : Type 1} → statement M
+pub units-above-one-spec : {M : Type 1} → Rattle.factors.proofs.units_above_one.Statement.statement M
 units-above-one-spec = tie.close (tie.spec (search needs) mul-result mul-result-2 mul-result-3 returns returns-2 returns-3 returns-4)

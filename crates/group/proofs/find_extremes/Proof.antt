@@ -8,7 +8,6 @@ use lib.ListN.{length, drop}
 use Rattle.group.specs.Repeatability.{smallest, largest}
 use Rattle.exact.proofs.Gathering.{begun, next, finished}
 use Rattle.group.proofs.Gathering.{smallest-gathered, largest-gathered}
-use Rattle.group.proofs.find_extremes.Statement.{statement}
 use Rattle.group.proofs.find_extremes.Tie as tie
 
 abbrev Inv-loop : tie.InvT-loop
@@ -39,7 +38,7 @@ returns c =
     let xs = c .before .before .before .before .before .args .values .now in
     (finished smallest-gathered xs (l .i) (c .loop-test .left) (l .inv .0), finished largest-gathered xs (l .i) (c .loop-test .left) (l .inv .1))
 
-pub find-extremes-spec : {M : Type 1} → statement M
+pub find-extremes-spec : {M : Type 1} → Rattle.group.proofs.find_extremes.Statement.statement M
 find-extremes-spec =
     tie.close
     (tie.spec Inv-loop μ-loop (λ c. omega arith) (λ c. omega arith) loop-holds (λ c. omega arith) (λ c. omega arith) (search needs) (λ c. omega arith)

@@ -11,7 +11,6 @@ use Rattle.group.specs.Spread.{spreadOf}
 use Rattle.refusals.specs.Told.{done}
 use Rattle.group.proofs.Bounds.{smallest-at-most-largest}
 use Rattle.group.proofs.Spreads.{byQuotient, by-quotient, none-of-none}
-use Rattle.group.proofs.find_spread.Statement.{statement}
 use Rattle.group.proofs.find_spread.Tie as tie
 
 no-smallest : (xs : List ℕ) → length xs ≡ 0 → smallest xs ≡ 0
@@ -46,7 +45,7 @@ returns-3 c = let r = c .before .before in sym (ap (byQuotient (start r .args .v
 returns-4 : tie.Need-returns-4
 returns-4 c = let r = c .before .before in sym (ap (byQuotient (start r .args .values .now)) (c .enum-told2 .given .1)) ∙ told-by r
 
-pub find-spread-spec : {M : Type 1} → statement M
+pub find-spread-spec : {M : Type 1} → Rattle.group.proofs.find_spread.Statement.statement M
 find-spread-spec =
     tie.close
     (tie.spec returns (search needs) sub-rounded-ratio (search needs) (search needs) (search needs) (search needs) returns-2 returns-3 returns-4)

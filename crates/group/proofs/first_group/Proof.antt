@@ -8,7 +8,6 @@ use Rattle.octets.specs.FirstToLast.{firstPlace, placeIf}
 use Rattle.octets.proofs.FirstToLast.{places as place-search, done, place-next, place-hit}
 use Rattle.group.specs.Repeatability.{qualifiesAt, firstGroup}
 use Rattle.group.proofs.Groups.{none-of-no-size, none-of-too-few, search-begins, part-qualifies}
-use Rattle.group.proofs.first_group.Statement.{statement}
 use Rattle.group.proofs.first_group.Tie as tie
 
 abbrev Inv-loop : tie.InvT-loop
@@ -51,7 +50,7 @@ returns-4 c =
     let a = c .before .before .before .before .before .args in
     sym (done place-search (placeIf (qualifiesAt (a .limit) (a .size) (a .values .now))) (length (a .values .now) + 1 - a .size) (l .at) (omega arith) (l .inv))
 
-pub first-group-spec : {M : Type 1} → statement M
+pub first-group-spec : {M : Type 1} → Rattle.group.proofs.first_group.Statement.statement M
 first-group-spec =
     tie.close
     (tie.spec Inv-loop μ-loop returns returns-2 (λ c. omega arith) loop-holds (λ c. omega arith) (λ c. omega arith) (λ c. omega arith)

@@ -12,7 +12,6 @@ use Rattle.group.specs.Repeatability.{smallest, largest, qualifies}
 use Rattle.group.proofs.Bounds.{smallest-at-most-largest}
 use Rattle.group.proofs.Groups.{qualifies-none, qualifies-some}
 use borrow.Author.Needs.{needs}
-use Rattle.group.proofs.is_group.Statement.{statement}
 use Rattle.group.proofs.is_group.Tie as tie
 
 returns : tie.Need-returns
@@ -37,5 +36,5 @@ returns-2 c =
     c .is-at-most .ensures
     ∙ compared (a .limit) (a .values .now) (e .result .smallest) (e .result .largest) (p .product .result) (c .before .product2 .result) (omega arith) (e .ensures .0) (e .ensures .1) (p .product .ensures) (c .before .product2 .ensures)
 
-pub is-group-spec : {M : Type 1} → statement M
+pub is-group-spec : {M : Type 1} → Rattle.group.proofs.is_group.Statement.statement M
 is-group-spec = tie.close (tie.spec returns (search needs) sub-product (search needs) (search needs) (search needs) returns-2)

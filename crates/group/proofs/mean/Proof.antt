@@ -8,7 +8,6 @@ use Rattle.exact.proofs.Words.{value-wide}
 use Rattle.exact.specs.Quotient.{quotientOf, valueOrZero}
 use Rattle.group.proofs.Means.{mean-value}
 use borrow.Author.Needs.{needs}
-use Rattle.group.proofs.mean.Statement.{statement}
 use Rattle.group.proofs.mean.Tie as tie
 
 returns : tie.Need-returns
@@ -21,5 +20,5 @@ returns c =
     ∙ ap valueOrZero (q .rounded-quotient .ensures ∙ ap (λ (n : ℕ). quotientOf n (length xs)) (ap valueOf (sum .ensures) ∙ value-wide _))
     ∙ mean-value xs (λ k h. omega (arith, known .shared-slice-known .given k))
 
-pub mean-spec : {M : Type 1} → statement M
+pub mean-spec : {M : Type 1} → Rattle.group.proofs.mean.Statement.statement M
 mean-spec = tie.close (tie.spec (search needs) (search needs) (search needs) returns)

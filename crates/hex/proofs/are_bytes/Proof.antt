@@ -2,7 +2,6 @@
 use mathlib.Core.Path.{sym, _∙_}
 use borrow.Author.Needs.{needs}
 use Rattle.hex.specs.Hex.{areBytes}
-use Rattle.hex.proofs.are_bytes.Statement.{statement}
 use Rattle.hex.proofs.are_bytes.Tie as tie
 
 returns : tie.Need-returns
@@ -13,5 +12,5 @@ returns-2 : tie.Need-returns-2
 unfolding areBytes
 returns-2 c = rw (c .are-hex .ensures, sym (c .before .before .is-dash .ensures) ∙ c .before .if1 .left)
 
-pub are-bytes-spec : {M : Type 1} → statement M
+pub are-bytes-spec : {M : Type 1} → Rattle.hex.proofs.are_bytes.Statement.statement M
 are-bytes-spec = tie.close (tie.spec (search needs) returns (search needs) returns-2)

@@ -6,7 +6,6 @@ use borrow.Author.Needs.{needs}
 use lib.ListN.{length, getD, drop}
 use Rattle.hex.specs.Hex.{hexOf, areHex}
 use Rattle.hex.proofs.Hex.{all-step, all-stop, all-end}
-use Rattle.hex.proofs.are_hex.Statement.{statement}
 use Rattle.hex.proofs.are_hex.Tie as tie
 
 abbrev Inv-loop : tie.InvT-loop
@@ -33,7 +32,7 @@ loop-again c =
 returns-2 : tie.Need-returns-2 Inv-loop μ-loop
 returns-2 c = let l = c .before .loop in let w = c .before .before .before .args .word .now in sym (l .inv .0 ∙ all-end w (l .i) (omega arith))
 
-pub are-hex-spec : {M : Type 1} → statement M
+pub are-hex-spec : {M : Type 1} → Rattle.hex.proofs.are_hex.Statement.statement M
 are-hex-spec =
     tie.close
     (tie.spec Inv-loop μ-loop loop-holds (search needs) (search needs) returns (search needs) (search needs) loop-again returns-2)

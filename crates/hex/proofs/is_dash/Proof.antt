@@ -2,12 +2,11 @@
 use borrow.Author.Needs.{needs}
 use Rattle.hex.specs.Hex.{isDash}
 use Rattle.octets.specs.Octets.{byteAt}
-use Rattle.hex.proofs.is_dash.Statement.{statement}
 use Rattle.hex.proofs.is_dash.Tie as tie
 
 returns : tie.Need-returns
 unfolding isDash byteAt
 returns c = rw (c .byte-at .ensures)
 
-pub is-dash-spec : {M : Type 1} → statement M
+pub is-dash-spec : {M : Type 1} → Rattle.hex.proofs.is_dash.Statement.statement M
 is-dash-spec = tie.close (tie.spec (search needs) returns)

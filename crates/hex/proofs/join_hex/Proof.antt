@@ -3,7 +3,6 @@ use mathlib.Core.Path.{sym}
 use borrow.Author.Needs.{needs}
 use borrow.Author.Tests.{le-leb, lt-leb}
 use Rattle.hex.specs.Hex.{pairOf}
-use Rattle.hex.proofs.join_hex.Statement.{statement}
 use Rattle.hex.proofs.join_hex.Tie as tie
 
 returns : tie.Need-returns
@@ -18,5 +17,5 @@ returns-3 : tie.Need-returns-3
 unfolding pairOf
 returns-3 c = sym (rw (le-leb (c .before .before .args .high) 15 (c .before .if1 .left), le-leb (c .before .before .args .low) 15 (c .if2 .left)))
 
-pub join-hex-spec : {M : Type 1} → statement M
+pub join-hex-spec : {M : Type 1} → Rattle.hex.proofs.join_hex.Statement.statement M
 join-hex-spec = tie.close (tie.spec returns returns-2 (search needs) (search needs) returns-3)

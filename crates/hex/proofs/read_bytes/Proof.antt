@@ -12,7 +12,6 @@ use Rattle.hex.specs.Hex.{hexOf, pairOf, pairs}
 use Rattle.words.specs.Written.{placeAfter}
 use Rattle.hex.proofs.Hex.{pairs-length, pairs-at, bytes-none, bytes-some, place-none, written-none, one-pair, all-pairs, as-long}
 use Rattle.words.proofs.Written.{place-fits, place-not}
-use Rattle.hex.proofs.read_bytes.Statement.{statement}
 use Rattle.hex.proofs.read_bytes.Tie as tie
 
 abbrev Inv-loop : tie.InvT-loop
@@ -83,7 +82,7 @@ returns-3 c =
       ),
     )
 
-pub read-bytes-spec : {M : Type 1} → statement M
+pub read-bytes-spec : {M : Type 1} → Rattle.hex.proofs.read_bytes.Statement.statement M
 read-bytes-spec =
     tie.close
     (tie.spec Inv-loop μ-loop (search needs) returns returns-2 loop-holds (search needs) (search needs) (search needs) (search needs) (search needs)

@@ -3,7 +3,6 @@ use mathlib.Core.Path.{sym}
 use native.Mathlib.Omega.{arith}
 use borrow.Author.Needs.{needs}
 use Rattle.hex.proofs.Hex.{hex-digit, hex-letter, hex-low, hex-between, hex-high}
-use Rattle.hex.proofs.value_hex.Statement.{statement}
 use Rattle.hex.proofs.value_hex.Tie as tie
 
 returns : tie.Need-returns
@@ -21,5 +20,5 @@ returns-4 c = (sym (hex-letter (c .before .before .before .before .args .byte) (
 returns-5 : tie.Need-returns-5
 returns-5 c = (sym (hex-high (c .before .before .before .before .args .byte) (c .if4 .left)), omega arith)
 
-pub value-hex-spec : {M : Type 1} → statement M
+pub value-hex-spec : {M : Type 1} → Rattle.hex.proofs.value_hex.Statement.statement M
 value-hex-spec = tie.close (tie.spec returns returns-2 returns-3 (search needs) returns-4 returns-5)

@@ -4,7 +4,6 @@ use borrow.Author.Needs.{needs}
 use Rattle.octets.specs.Octets.{writtenAt}
 use Rattle.words.specs.Written.{placeAfter}
 use Rattle.hex.proofs.Spelling.{dash-word, text-word}
-use Rattle.hex.proofs.write_bytes.Statement.{statement}
 use Rattle.hex.proofs.write_bytes.Tie as tie
 
 returns : tie.Need-returns
@@ -20,5 +19,5 @@ returns-2 c =
     let e = text-word (a .bytes .now) (c .before .before .before .before .if1 .left) in
     (c .before .before .write-hex .ensures .0 ∙ ap (placeAfter (a .out .now) (a .at)) (sym e), c .before .before .write-hex .ensures .1 ∙ ap (writtenAt (a .out .now) (a .at)) (sym e))
 
-pub write-bytes-spec : {M : Type 1} → statement M
+pub write-bytes-spec : {M : Type 1} → Rattle.hex.proofs.write_bytes.Statement.statement M
 write-bytes-spec = tie.close (tie.spec (search needs) (search needs) (search needs) returns (search needs) (search needs) returns-2)

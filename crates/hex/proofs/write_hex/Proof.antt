@@ -9,7 +9,6 @@ use Rattle.octets.proofs.Laws.{written-not}
 use Rattle.hex.specs.Hex.{hexText}
 use Rattle.hex.proofs.Spelling.{text-length, text-high, text-low, two-more, all-text}
 use Rattle.words.proofs.Written.{place-fits, place-not}
-use Rattle.hex.proofs.write_hex.Statement.{statement}
 use Rattle.hex.proofs.write_hex.Tie as tie
 
 abbrev Inv-loop : tie.InvT-loop
@@ -73,7 +72,7 @@ returns-3 c =
     let e : a .at + length t ≡ a .at + 2 * length (a .bytes .now) = omega arith in
     (sym (place-fits (a .out .now) (a .at) t (omega arith) ∙ e), all-text (a .out .now) t (l .out) (a .at) (2 * l .i) (omega arith) (omega arith) (l .inv .1))
 
-pub write-hex-spec : {M : Type 1} → statement M
+pub write-hex-spec : {M : Type 1} → Rattle.hex.proofs.write_hex.Statement.statement M
 write-hex-spec =
     tie.close
     (tie.spec Inv-loop μ-loop returns (search needs) returns-2 loop-holds (search needs) (search needs) (search needs) (search needs) (search needs)

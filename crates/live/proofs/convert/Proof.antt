@@ -16,7 +16,6 @@ use Rattle.live.specs.Live.{wholeOf, psiOk, told}
 use Rattle.live.specs.Word.{inWord}
 use Rattle.live.proofs.Answers.{singleFault, was-in-range, live-judged}
 use Rattle.live.proofs.Words.{temperature-reach, psi-reach, judged-by-word, word-in-range, psi-unsigned}
-use Rattle.live.proofs.convert.Statement.{statement}
 use Rattle.live.proofs.convert.Tie as tie
 
 abbrev rounds : tie.After-or-else → tie.After-round2
@@ -86,7 +85,7 @@ returns-2 c =
     let j = c .before .before .before in
     sym (live-judged (temperature (rounds j)) (pressure (rounds j)) ∙ judged-fault _ (sym (judged-by j) ∙ ap faultOf (c .before .refusal .given .1)))
 
-pub convert-spec : {M : Type 1} → statement M
+pub convert-spec : {M : Type 1} → Rattle.live.proofs.convert.Statement.statement M
 convert-spec =
     tie.close
     (tie.spec (search needs) (search needs) (search needs) (search needs) (search needs) (search needs) (search needs) (λ c. search needs) cast-t10

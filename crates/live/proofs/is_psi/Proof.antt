@@ -11,7 +11,6 @@ use mir.Syntax.{w16}
 use mir.Val.{toZ, ofZ}
 use Rattle.ranges.specs.Table.{pressureOk}
 use Rattle.live.specs.Live.{psiOk}
-use Rattle.live.proofs.is_psi.Statement.{statement}
 use Rattle.live.proofs.is_psi.Tie as tie
 
 below-zero : (z : ℤ) → ltZ z (pos 0) ≡ true → false ≡ psiOk z
@@ -37,7 +36,7 @@ cast-is-pressure c = rw (back (c .before)) (reached c .0, record { fits = omega 
 returns-2 : tie.Need-returns-2
 returns-2 c = c .is-pressure .ensures ∙ ap (λ (z : ℤ). pressureOk (natAbs z)) (back (c .before .before)) ∙ reached (c .before) .1
 
-pub is-psi-spec : {M : Type 1} → statement M
+pub is-psi-spec : {M : Type 1} → Rattle.live.proofs.is_psi.Statement.statement M
 is-psi-spec =
     tie.close
     (tie.spec cast-is-pressure (search needs)

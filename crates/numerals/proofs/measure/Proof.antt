@@ -5,7 +5,6 @@ use native.Mathlib.Omega.{arith}
 use borrow.Author.Needs.{needs}
 use lib.IntN.{natAbs}
 use Rattle.numerals.proofs.Signs.{above, below, turned-fits, Below}
-use Rattle.numerals.proofs.measure.Statement.{statement}
 use Rattle.numerals.proofs.measure.Tie as tie
 
 is-below : (c : tie.Else1) → Below (c .before .args .n)
@@ -23,5 +22,5 @@ add-result c = let b = is-below c in omega (arith, ap natAbs (b .is), b .small)
 returns-2 : tie.Need-returns-2
 returns-2 c = let b = is-below c in ap (λ (n : ℕ). n + 1) (ap natAbs (b .is)) ∙ sym (b .abs)
 
-pub measure-spec : {M : Type 1} → statement M
+pub measure-spec : {M : Type 1} → Rattle.numerals.proofs.measure.Statement.statement M
 measure-spec = tie.close (tie.spec cast-result (λ c. search needs) cast-result-2 add-result returns-2)

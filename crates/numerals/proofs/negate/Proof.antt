@@ -2,7 +2,6 @@
 use borrow.Author.Needs.{needs}
 use Rattle.numerals.specs.Numbers.{negated, toldSigned}
 use Rattle.numerals.proofs.Signs.{turned-below}
-use Rattle.numerals.proofs.negate.Statement.{statement}
 use Rattle.numerals.proofs.negate.Tie as tie
 
 returns : tie.Need-returns
@@ -13,5 +12,5 @@ returns-2 : tie.Need-returns-2
 unfolding toldSigned
 returns-2 c = turned-below (c .before .args .size) (c .if1 .left) (c .before .pre)
 
-pub negate-spec : {M : Type 1} → statement M
+pub negate-spec : {M : Type 1} → Rattle.numerals.proofs.negate.Statement.statement M
 negate-spec = tie.close (tie.spec returns (search needs) (search needs) returns-2)

@@ -6,7 +6,6 @@ use borrow.Author.Needs.{needs}
 use lib.ListN.{length, getD, drop}
 use Rattle.numerals.specs.Numbers.{digitOf, goOn, wholeOf, upTo, numberOf, told}
 use Rattle.numerals.proofs.Numbers.{no-digit, one-digit, no-more, too-large, small-enough, ill, well-led}
-use Rattle.numerals.proofs.read_number.Statement.{statement}
 use Rattle.numerals.proofs.read_number.Tie as tie
 
 abbrev Inv-loop : tie.InvT-loop
@@ -52,7 +51,7 @@ returns-4 : tie.Need-returns-4 Inv-loop μ-loop
 unfolding told numberOf
 returns-4 c = let l = c .before .loop in let a = c .before .before .before .before .before .args in sym (ap (upTo (a .most)) (l .inv .1 .1 ∙ no-more (l .value) (a .word .now) (l .i) (omega arith)) ∙ small-enough (a .most) (l .value) (omega arith))
 
-pub read-number-spec : {M : Type 1} → statement M
+pub read-number-spec : {M : Type 1} → Rattle.numerals.proofs.read_number.Statement.statement M
 read-number-spec =
     tie.close
     (tie.spec Inv-loop μ-loop (search needs) returns loop-holds (search needs) (search needs) returns-2 (search needs) (search needs) returns-3

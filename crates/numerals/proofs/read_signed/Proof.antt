@@ -8,7 +8,6 @@ use Rattle.octets.specs.Octets.{byteAt}
 use Rattle.numerals.specs.Numbers.{numberOf, negated, asItIs, toldSigned}
 use Rattle.numerals.proofs.Numbers.{number-fits, taken-signed, left-signed, valued, unvalued}
 use Rattle.numerals.proofs.Signs.{held-is}
-use Rattle.numerals.proofs.read_signed.Statement.{statement}
 use Rattle.numerals.proofs.read_signed.Tie as tie
 
 dashed : (c : tie.Then1) → getD (c .before .before .before .args .word .now) 0 0 ≡ 45
@@ -33,9 +32,6 @@ above-is c = valued 32767 _ _ _ _ (c .before .before .before .read-number2 .ensu
 
 negate-requires : tie.Need-negate-requires
 negate-requires c κs = number-fits 32768 _ _ (below-is c)
-
-enum-told : tie.Need-enum-told
-enum-told c = search needs
 
 returns : tie.Need-returns
 returns c =
@@ -66,8 +62,8 @@ returns-4 c =
     let a = c .before .before .before .before .before .before .args in
     sym (left-signed (a .word .now) (undashed (c .before .before .before)) ∙ ap asItIs (unvalued 32767 _ _ _ (c .before .before .read-number2 .ensures) refl (c .enum-told2 .given .1)))
 
-pub read-signed-spec : {M : Type 1} → statement M
+pub read-signed-spec : {M : Type 1} → Rattle.numerals.proofs.read_signed.Statement.statement M
 read-signed-spec =
     tie.close
-    (tie.spec (search needs) (search needs) (search needs) (search needs) negate-requires enum-told returns returns-2 (search needs) (search needs)
-    cast-t11 (search needs) returns-3 returns-4)
+    (tie.spec (search needs) (search needs) (search needs) (search needs) negate-requires (search needs) returns returns-2 (search needs)
+    (search needs) cast-t11 (search needs) returns-3 returns-4)

@@ -3,7 +3,6 @@ use mathlib.Core.Path.{sym}
 use native.Mathlib.Omega.{arith}
 use borrow.Author.Needs.{needs}
 use Rattle.numerals.proofs.Numbers.{digit-is, digit-low, digit-high}
-use Rattle.numerals.proofs.value_digit.Statement.{statement}
 use Rattle.numerals.proofs.value_digit.Tie as tie
 
 returns : tie.Need-returns
@@ -15,5 +14,5 @@ returns-2 c = (sym (digit-high (c .before .before .args .byte) (c .if2 .left)), 
 returns-3 : tie.Need-returns-3
 returns-3 c = (sym (digit-low (c .before .args .byte) (c .if1 .left)), omega arith)
 
-pub value-digit-spec : {M : Type 1} → statement M
+pub value-digit-spec : {M : Type 1} → Rattle.numerals.proofs.value_digit.Statement.statement M
 value-digit-spec = tie.close (tie.spec (search needs) returns returns-2 returns-3)

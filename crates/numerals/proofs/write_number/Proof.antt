@@ -7,7 +7,6 @@ use Rattle.octets.specs.Octets.{writtenAt}
 use Rattle.words.specs.Written.{placeAfter}
 use Rattle.numerals.proofs.Printed.{spelt}
 use borrow.Author.Needs.{needs}
-use Rattle.numerals.proofs.write_number.Statement.{statement}
 use Rattle.numerals.proofs.write_number.Tie as tie
 
 abbrev decimals : tie.After-slice-known2 → tie.After-decimal
@@ -25,5 +24,5 @@ returns c =
     let a = start c .args in
     (c .before .before .write-text .ensures .0 ∙ ap (placeAfter (a .out .now) (a .at)) t, c .before .before .write-text .ensures .1 ∙ ap (writtenAt (a .out .now) (a .at)) t)
 
-pub write-number-spec : {M : Type 1} → statement M
+pub write-number-spec : {M : Type 1} → Rattle.numerals.proofs.write_number.Statement.statement M
 write-number-spec = tie.close (tie.spec (search needs) (search needs) (search needs) (search needs) (search needs) returns)

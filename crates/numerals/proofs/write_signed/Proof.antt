@@ -7,7 +7,6 @@ use Rattle.numerals.specs.Numbers.{printed}
 use Rattle.words.specs.Written.{placeAfter}
 use Rattle.numerals.proofs.Signs.{machine-above, machine-below, dash}
 use borrow.Author.Needs.{needs}
-use Rattle.numerals.proofs.write_signed.Statement.{statement}
 use Rattle.numerals.proofs.write_signed.Tie as tie
 
 returns : tie.Need-returns
@@ -34,7 +33,7 @@ returns-2 c =
           ∙ ap (λ (l : List ℕ). writtenAt l (t .result) (printed m)) (t .ensures .1) ∙ ap (λ (p : ℕ). writtenAt (writtenAt (a .out .now) (a .at) dash) p (printed m)) (t .ensures .0) ∙ s .left-is,
     )
 
-pub write-signed-spec : {M : Type 1} → statement M
+pub write-signed-spec : {M : Type 1} → Rattle.numerals.proofs.write_signed.Statement.statement M
 write-signed-spec =
     tie.close
     (tie.spec (search needs) (search needs) (search needs) returns (search needs) (search needs) (search needs) (search needs) (search needs)

@@ -9,7 +9,6 @@ use lib.ListN.{length, getD, List·getD-eq-default}
 use Rattle.octets.specs.FirstToLast.{holdsAll}
 use Rattle.octets.specs.Octets.{isZeroAt, zeroBetween}
 use Rattle.octets.proofs.FirstToLast.{tests, next, done, nowhere, all-hit}
-use Rattle.octets.proofs.are_zero.Statement.{statement}
 use Rattle.octets.proofs.are_zero.Tie as tie
 
 abbrev Inv-loop : tie.InvT-loop
@@ -58,7 +57,7 @@ returns-3 c =
     let a = c .before .before .args in
     sym (l .inv ∙ past-end (a .s .now) (a .b - l .i) (l .i) (c .loop-test .left))
 
-pub are-zero-spec : {M : Type 1} → statement M
+pub are-zero-spec : {M : Type 1} → Rattle.octets.proofs.are_zero.Statement.statement M
 are-zero-spec =
     tie.close
     (tie.spec Inv-loop μ-loop loop-holds returns (λ c. omega arith) returns-2 (λ c. omega arith) (λ c. omega arith) loop-again returns-3)

@@ -8,7 +8,6 @@ use mir.Syntax.{w16}
 use mir.Val.{toZ}
 use Rattle.octets.specs.Octets.{signedAt, signedOf}
 use Rattle.octets.proofs.Laws.{signed-low, signed-high}
-use Rattle.octets.proofs.signed_at.Statement.{statement}
 use Rattle.octets.proofs.signed_at.Tie as tie
 
 machine-low : (x : ℕ) → x < 32768 → toZ w16 x ≡ signedOf x
@@ -30,5 +29,5 @@ returns-2 c =
     let x = c .before .word-at in
     machine-high (x .result) (c .if1 .left) (omega arith) ∙ ap signedOf (x .ensures)
 
-pub signed-at-spec : {M : Type 1} → statement M
+pub signed-at-spec : {M : Type 1} → Rattle.octets.proofs.signed_at.Statement.statement M
 signed-at-spec = tie.close (tie.spec (search needs) (search needs) (search needs) (search needs) returns returns-2)

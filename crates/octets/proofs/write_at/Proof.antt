@@ -8,7 +8,6 @@ use lib.ListN.{length, getD, take, drop, set}
 use lib.Seq.{paste, paste-zero, paste-suc, length-paste, take-length}
 use Rattle.octets.specs.Octets.{writtenAt}
 use Rattle.octets.proofs.Laws.{written-fits, written-not}
-use Rattle.octets.proofs.write_at.Statement.{statement}
 use Rattle.octets.proofs.write_at.Tie as tie
 
 abbrev Inv-loop : tie.InvT-loop
@@ -67,7 +66,7 @@ returns-3 c =
     let l = c .before .loop in
     all-of-it (a .to .now) (a .bytes .now) (l .to) (a .at) (l .i) (omega arith) (omega arith) (l .inv .1)
 
-pub write-at-spec : {M : Type 1} → statement M
+pub write-at-spec : {M : Type 1} → Rattle.octets.proofs.write_at.Statement.statement M
 write-at-spec =
     tie.close
     (tie.spec Inv-loop μ-loop returns (λ c. omega arith) returns-2 loop-holds (λ c. omega arith) (λ c. omega arith) slice-write-to (λ c. omega arith)

@@ -9,7 +9,6 @@ use Rattle.refusals.specs.Told.{Told, done}
 use Rattle.proving.proofs.Facts.{FoundAt, found-at}
 use Rattle.proving.specs.Answers.{toldFound}
 use Rattle.proving.specs.Job.{foundOf, acceptedBy, acceptedOf}
-use Rattle.proving.proofs.accept.Statement.{statement}
 use Rattle.proving.proofs.accept.Tie as tie
 
 abbrev begin : tie.After-known-told → tie.Start
@@ -37,7 +36,7 @@ returns-2 c =
     let f = c .before .before .before in
     sym (ap (λ (t : Told ℕ). acceptedBy 32 t (now (f .before .before .args .records))) (sym (f .find-five .ensures .0) ∙ ap toldFound (c .before .enum-told .given .1)))
 
-pub accept-spec : {M : Type 1} → statement M
+pub accept-spec : {M : Type 1} → Rattle.proving.proofs.accept.Statement.statement M
 accept-spec =
     tie.close
     (tie.spec (search needs) (search needs) (λ c. omega (arith, room c)) (λ c. omega (arith, room c)) (search needs) (search needs)

@@ -15,7 +15,6 @@ use Rattle.group.proofs.Listed.{filled-listed}
 use Rattle.proving.proofs.Facts.{Settings, settings}
 use Rattle.proving.specs.Job.{factorAt, factorsOf, firstFive, foundOf}
 use Rattle.proving.specs.Judging.{settingsFault, inputFault}
-use Rattle.proving.proofs.find_five.Statement.{statement}
 use Rattle.proving.proofs.find_five.Tie as tie
 
 abbrev start : tie.After-enum-told → tie.Start
@@ -62,7 +61,7 @@ returns-2 c =
     let at-fault = ap (λ (f : Fault). unless f (nineUnless (firstFive (a .prover) (a .k) (a .limit) (now (a .records))) (λ (at : ℕ). at))) (sym (j .ensures .0) ∙ ap faultOf (v .verdict .given .1)) in
     (sym at-fault, j .ensures .1, λ at told. absurd (refused-not-done told))
 
-pub find-five-spec : {M : Type 1} → statement M
+pub find-five-spec : {M : Type 1} → Rattle.proving.proofs.find_five.Statement.statement M
 find-five-spec =
     tie.close
     (tie.spec (search needs) (λ c. search needs) array-share-prefix-factors slice-aggregate-seek (search needs) (search needs) returns returns-2)

@@ -11,11 +11,7 @@ use Rattle.proving.proofs.Facts.{Settings, settings, fields-fit}
 use Rattle.octets.specs.Records.{recordsIn}
 use Rattle.refusals.specs.Verdict.{faultOf}
 use Rattle.proving.specs.Judging.{settingsFault, recordFault, inputFault}
-use Rattle.proving.proofs.judge_input.Statement.{statement}
 use Rattle.proving.proofs.judge_input.Tie as tie
-
-enum-told : tie.Need-enum-told
-enum-told c = search needs
 
 returns : tie.Need-returns
 unfolding inputFault
@@ -56,8 +52,8 @@ returns-3 c =
     let d = c .before in
     (c .work-out-runs .ensures .0 ∙ sym (orElse-next _ (settings-fine (d .before .before .before)) ∙ orElse-next _ (records-fine d)), c .work-out-runs .ensures .1, c .work-out-runs .ensures .2)
 
-pub judge-input-spec : {M : Type 1} → statement M
+pub judge-input-spec : {M : Type 1} → Rattle.proving.proofs.judge_input.Statement.statement M
 judge-input-spec =
     tie.close
-    (tie.spec (search needs) enum-told (search needs) returns judge-records-requires (search needs) (search needs) returns-2 work-out-runs-requires
-    returns-3)
+    (tie.spec (search needs) (search needs) (search needs) returns judge-records-requires (search needs) (search needs) returns-2
+    work-out-runs-requires returns-3)

@@ -6,7 +6,6 @@ use borrow.Author.Needs.{needs}
 use Rattle.refusals.specs.Told.{demandAt, orElse}
 use Rattle.run.specs.Record.{runOk, unnamedOk}
 use Rattle.proving.specs.Judging.{recordFault}
-use Rattle.proving.proofs.judge_record.Statement.{statement}
 use Rattle.proving.proofs.judge_record.Tie as tie
 
 returns : tie.Need-returns
@@ -19,7 +18,7 @@ returns c =
     let two = c .before .demand2 .ensures ∙ ap (λ (b : Bool). demandAt b 2 n) (z .are-zero .ensures) in
     c .or-else .ensures ∙ (λ i. orElse (five i) (two i))
 
-pub judge-record-spec : {M : Type 1} → statement M
+pub judge-record-spec : {M : Type 1} → Rattle.proving.proofs.judge_record.Statement.statement M
 judge-record-spec =
     tie.close
     (tie.spec (search needs) (search needs) (search needs) (search needs) (search needs) (search needs) (search needs) (search needs) (search needs)

@@ -8,7 +8,6 @@ use Rattle.octets.specs.FirstToLast.{scan}
 use Rattle.octets.proofs.FirstToLast.{faults, start, next, scan-hit, done}
 use Rattle.proving.specs.Judging.{recordFault}
 use Rattle.refusals.specs.Verdict.{faultOf}
-use Rattle.proving.proofs.judge_records.Statement.{statement}
 use Rattle.proving.proofs.judge_records.Tie as tie
 
 abbrev Inv-loop : tie.InvT-loop
@@ -19,9 +18,6 @@ abbrev μ-loop : tie.MeasureT-loop
 
 loop-holds : tie.Need-loop-holds Inv-loop μ-loop
 loop-holds c = (omega arith, start faults (recordFault _) _)
-
-enum-told : tie.Need-enum-told Inv-loop μ-loop
-enum-told c = search needs
 
 returns : tie.Need-returns Inv-loop μ-loop
 returns c =
@@ -41,8 +37,8 @@ returns-2 c =
     let a = c .before .before .before .args in
     sym (done faults (recordFault (now (a .records))) (a .count) (c .before .loop .i) (c .loop-test .left) (c .before .loop .inv .1))
 
-pub judge-records-spec : {M : Type 1} → statement M
+pub judge-records-spec : {M : Type 1} → Rattle.proving.proofs.judge_records.Statement.statement M
 judge-records-spec =
     tie.close
-    (tie.spec Inv-loop μ-loop loop-holds (λ c κs. omega arith) enum-told (search needs) returns (λ c. omega arith) (λ c. omega arith) loop-again
+    (tie.spec Inv-loop μ-loop loop-holds (λ c κs. omega arith) (search needs) (search needs) returns (λ c. omega arith) (λ c. omega arith) loop-again
     returns-2)

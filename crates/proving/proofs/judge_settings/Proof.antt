@@ -7,7 +7,6 @@ use lib.Dec.{eqb}
 use Rattle.octets.specs.Records.{areRecords}
 use Rattle.refusals.specs.Told.{demand, orElse}
 use Rattle.proving.specs.Judging.{settingsFault}
-use Rattle.proving.proofs.judge_settings.Statement.{statement}
 use Rattle.proving.proofs.judge_settings.Tie as tie
 
 returns : tie.Need-returns
@@ -25,7 +24,7 @@ returns c =
     let rest = c .before .or-else2 .ensures ∙ (λ i. orElse (three i) (last i)) in
     c .or-else3 .ensures ∙ (λ i. orElse (one i) (rest i))
 
-pub judge-settings-spec : {M : Type 1} → statement M
+pub judge-settings-spec : {M : Type 1} → Rattle.proving.proofs.judge_settings.Statement.statement M
 judge-settings-spec =
     tie.close
     (tie.spec (search needs) (search needs) (search needs) (search needs) (search needs) (search needs) (search needs) (search needs) (search needs)

@@ -22,7 +22,6 @@ use Rattle.proving.proofs.Facts.{FoundAt, found-at, five-listed, writte
 use Rattle.proving.specs.Answers.{toldFound}
 use Rattle.proving.specs.Job.{HoldsAll, firstFive, foundOf, reportAt, jobOf}
 use Rattle.proving.specs.Judging.{inputFault}
-use Rattle.proving.proofs.prove.Statement.{statement}
 use Rattle.proving.proofs.prove.Tie as tie
 
 abbrev start : tie.After-or-else → tie.Start
@@ -131,7 +130,7 @@ returns-3 c =
     let same = job-by o (ap faultOf (c .before .verdict .given .1)) in
     (sym same, sym (ap (λ (t : Told Report). leftBy t bytesOfReport (buffer o)) same))
 
-pub prove-spec : {M : Type 1} → statement M
+pub prove-spec : {M : Type 1} → Rattle.proving.proofs.prove.Statement.statement M
 prove-spec =
     tie.close
     (tie.spec (search needs) (search needs) (search needs) (search needs) (search needs) (search needs)

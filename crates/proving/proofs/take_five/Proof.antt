@@ -4,7 +4,6 @@ use native.Mathlib.Nat.{add-zero}
 use native.Mathlib.Omega.{arith}
 use borrow.Author.Needs.{needs}
 use Rattle.proving.specs.Job.{fiveAt}
-use Rattle.proving.proofs.take_five.Statement.{statement}
 use Rattle.proving.proofs.take_five.Tie as tie
 
 cast-t8 : tie.Need-cast-t8
@@ -26,7 +25,7 @@ returns : tie.Need-returns
 unfolding fiveAt
 returns c = refl
 
-pub take-five-spec : {M : Type 1} → statement M
+pub take-five-spec : {M : Type 1} → Rattle.proving.proofs.take_five.Statement.statement M
 take-five-spec =
     tie.close
     (tie.spec (search needs) (search needs) cast-t8 (search needs) (search needs) (search needs) cast-t14 (search needs) (search needs) (search needs)

@@ -20,7 +20,6 @@ use Rattle.proving.specs.Judging.{runFault}
 use Rattle.proving.specs.Job.{factorAt}
 use Rattle.proving.specs.Answers.{refusedIn}
 use Rattle.proving.proofs.Laws.{run-judged}
-use Rattle.proving.proofs.work_out_runs.Statement.{statement}
 use Rattle.proving.proofs.work_out_runs.Tie as tie
 
 abbrev Inv-loop : tie.InvT-loop
@@ -89,7 +88,7 @@ returns-2 c =
     let l = c .before .loop in
     (sym (done faults (runFault (a .prover) (a .k) (now (a .records))) (a .count) (l .i) (c .loop-test .left) (l .inv .2)), l .inv .1, λ clear j h. l .inv .3 j (omega arith))
 
-pub work-out-runs-spec : {M : Type 1} → statement M
+pub work-out-runs-spec : {M : Type 1} → Rattle.proving.proofs.work_out_runs.Statement.statement M
 work-out-runs-spec =
     tie.close
     (tie.spec Inv-loop μ-loop loop-holds (search needs) (λ c. omega arith) (λ c. omega arith) (search needs) (search needs) (λ c. search needs)

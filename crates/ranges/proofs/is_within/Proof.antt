@@ -1,6 +1,5 @@
 -- `ranges::is_within` meets its contract: each test decides as `within` does.
 use borrow.Author.Tests.{le-leb, lt-leb}
-use Rattle.ranges.proofs.is_within.Statement.{statement}
 use Rattle.ranges.proofs.is_within.Tie as tie
 
 returns : tie.Need-returns
@@ -9,5 +8,5 @@ returns c = rw (le-leb _ _ (c .if1 .taken))
 returns-2 : tie.Need-returns-2
 returns-2 c = rw (lt-leb _ _ (c .if1 .left))
 
-pub is-within-spec : {M : Type 1} → statement M
+pub is-within-spec : {M : Type 1} → Rattle.ranges.proofs.is_within.Statement.statement M
 is-within-spec = tie.close (tie.spec returns returns-2)

@@ -6,7 +6,6 @@ use lib.Signed.{leZ}
 use mir.Syntax.{w16}
 use mir.Val.{SFits, toZ, ofZ}
 use mir.ValLaws.{toZ-ofZ}
-use Rattle.ranges.proofs.is_within_signed.Statement.{statement}
 use Rattle.ranges.proofs.is_within_signed.Tie as tie
 
 machine-test : {a b : ℤ} → SFits w16 a → SFits w16 b → leZ (toZ w16 (ofZ w16 a)) (toZ w16 (ofZ w16 b)) ≡ leZ a b
@@ -25,5 +24,5 @@ returns-2 c =
     let a = c .before .fits in
     c .if1 .left ∙ first-test _ (a .least) (a .x) (c .if1 .left)
 
-pub is-within-signed-spec : {M : Type 1} → statement M
+pub is-within-signed-spec : {M : Type 1} → Rattle.ranges.proofs.is_within_signed.Statement.statement M
 is-within-signed-spec = tie.close (tie.spec returns returns-2)

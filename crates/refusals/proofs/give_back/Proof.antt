@@ -3,19 +3,15 @@ use mathlib.Core.Path.{_≡_, ap, sym}
 use borrow.Author.Needs.{needs}
 use Rattle.refusals.specs.Table.{givenBack}
 use Rattle.refusals.specs.declared.Refusal.{Refusal}
-use Rattle.refusals.proofs.give_back.Statement.{statement}
 use Rattle.refusals.proofs.give_back.Tie as tie
 
 told : {refusal this : Refusal} → refusal ≡ this → givenBack this ≡ givenBack refusal
 told is = sym (ap givenBack is)
 
-enum-told : tie.Need-enum-told
-enum-told c = search needs
-
-pub give-back-spec : {M : Type 1} → statement M
+pub give-back-spec : {M : Type 1} → Rattle.refusals.proofs.give_back.Statement.statement M
 give-back-spec =
     tie.close
-    (tie.spec enum-told (search needs) (search needs) (search needs) (search needs) (search needs) (search needs) (search needs) (search needs)
+    (tie.spec (search needs) (search needs) (search needs) (search needs) (search needs) (search needs) (search needs) (search needs) (search needs)
     (search needs) (search needs) (search needs) (search needs) (search needs) (search needs) (search needs) (search needs) (search needs)
     (search needs) (search needs) (search needs) (search needs) (search needs) (λ c. told (c .enum-told .given .1))
     (λ c. told (c .before .refusal .given .1)) (λ c. told (c .enum-told2 .given .1)) (λ c. told (c .enum-told3 .given .1))

@@ -3,7 +3,6 @@ use mathlib.Core.Bool.{and-true}
 use Rattle.report.specs.Judged.{factorsOk}
 use Rattle.report.specs.Record.{listOf}
 use borrow.Author.Needs.{needs}
-use Rattle.report.proofs.are_factors.Statement.{statement}
 use Rattle.report.proofs.are_factors.Tie as tie
 
 returns : tie.Need-returns
@@ -14,7 +13,7 @@ returns c =
     let c2 = c3 .before .before in
     rw (c2 .before .before .is-run-factor .ensures, c2 .is-run-factor2 .ensures, c3 .is-run-factor3 .ensures, c4 .is-run-factor4 .ensures, c .is-run-factor5 .ensures, and-true)
 
-pub are-factors-spec : {M : Type 1} → statement M
+pub are-factors-spec : {M : Type 1} → Rattle.report.proofs.are_factors.Statement.statement M
 are-factors-spec =
     tie.close
     (tie.spec (search needs) (search needs) (search needs) (search needs) (search needs) (search needs) (search needs) (search needs) (search needs)

@@ -1,7 +1,6 @@
 -- `report::decode` meets its contract: each field is read at its place.
 use Rattle.report.specs.Record.{fieldsOf}
 use borrow.Author.Needs.{needs}
-use Rattle.report.proofs.decode.Statement.{statement}
 use Rattle.report.proofs.decode.Tie as tie
 
 returns : tie.Need-returns
@@ -23,7 +22,7 @@ returns c =
       factors = record { one = c1 .before .word-at .ensures i; two = c1 .word-at2 .ensures i; three = c2 .word-at3 .ensures i; four = c3 .word-at4 .ensures i; five = c4 .word-at5 .ensures i };
     }
 
-pub decode-spec : {M : Type 1} → statement M
+pub decode-spec : {M : Type 1} → Rattle.report.proofs.decode.Statement.statement M
 decode-spec =
     tie.close
     (tie.spec (search needs) (search needs) (search needs) (search needs) (search needs) (search needs) (search needs) (search needs) (search needs)

@@ -5,7 +5,6 @@ use lib.ListN.{getD, replicate}
 use Rattle.octets.specs.Octets.{bytesOf}
 use Rattle.report.specs.Record.{bytesOfReport}
 use borrow.Author.Needs.{needs}
-use Rattle.report.proofs.lay_out.Statement.{statement}
 use Rattle.report.proofs.lay_out.Tie as tie
 
 -- two bytes, and four, before the rest
@@ -35,7 +34,7 @@ returns c =
     (halves (c5 .word-bytes5 .ensures i)
     (halves (c .word-bytes6 .ensures i) (replicate 14 0)))))))
 
-pub lay-out-spec : {M : Type 1} → statement M
+pub lay-out-spec : {M : Type 1} → Rattle.report.proofs.lay_out.Statement.statement M
 lay-out-spec =
     tie.close
     (tie.spec (search needs) (search needs) (search needs) (search needs) (search needs) (search needs) (search needs) (search needs) (search needs)

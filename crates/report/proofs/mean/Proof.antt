@@ -5,7 +5,6 @@ use Rattle.exact.specs.Words.{sumOf}
 use Rattle.group.specs.Mean.{meanOf}
 use Rattle.report.specs.Record.{listOf}
 use borrow.Author.Needs.{needs}
-use Rattle.report.proofs.mean.Statement.{statement}
 use Rattle.report.proofs.mean.Tie as tie
 
 cast-result-2 : tie.Need-cast-result-2
@@ -16,7 +15,7 @@ returns : tie.Need-returns
 unfolding listOf
 returns c = c .mean .ensures
 
-pub mean-spec : {M : Type 1} → statement M
+pub mean-spec : {M : Type 1} → Rattle.report.proofs.mean.Statement.statement M
 mean-spec =
     tie.close
     (tie.spec (search needs) (search needs) (search needs) (search needs) (search needs) (search needs) (search needs) cast-result-2 returns)

@@ -8,7 +8,6 @@ use Rattle.refusals.specs.Verdict.{faultOf}
 use Rattle.refusals.proofs.Laws.{judged-fine, judged-fault}
 use Rattle.report.specs.Judged.{reportOk, isReport, readOf}
 use borrow.Author.Needs.{needs}
-use Rattle.report.proofs.read.Statement.{statement}
 use Rattle.report.proofs.read.Tie as tie
 
 abbrev judging : tie.After-or-else → tie.After-demand
@@ -34,7 +33,7 @@ returns-2 : tie.Need-returns-2
 unfolding readOf
 returns-2 c = sym (judged-fault _ (sym (judges (c .before .before .before)) ∙ ap faultOf (c .before .verdict .given .1)))
 
-pub read-spec : {M : Type 1} → statement M
+pub read-spec : {M : Type 1} → Rattle.report.proofs.read.Statement.statement M
 read-spec =
     tie.close
     (tie.spec (search needs) (search needs) (search needs) (search needs) (search needs) (search needs) (search needs) (search needs) returns

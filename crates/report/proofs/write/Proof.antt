@@ -15,7 +15,6 @@ use Rattle.report.specs.Record.{listOf, bytesOfReport}
 use Rattle.report.specs.declared.Report.{Report}
 use Rattle.report.proofs.Laws.{length-report, write-accepts}
 use borrow.Author.Needs.{needs}
-use Rattle.report.proofs.write.Statement.{statement}
 use Rattle.report.proofs.write.Tie as tie
 
 abbrev judged : tie.After-or-else2 → tie.After-is-job
@@ -55,7 +54,7 @@ returns-2 c =
     let is = sym (judged-fault _ (sym (judges o) ∙ ap faultOf (c .before .verdict .given .1))) in
     (is, ap (λ (t : Told Report). leftBy t bytesOfReport (found o)) is)
 
-pub write-spec : {M : Type 1} → statement M
+pub write-spec : {M : Type 1} → Rattle.report.proofs.write.Statement.statement M
 write-spec =
     tie.close
     (tie.spec (search needs) (search needs) (search needs) (search needs) (search needs) (search needs) (search needs) (search needs) (search needs)

@@ -11,7 +11,6 @@ use Rattle.factors.proofs.Values.{combined-value}
 use Rattle.factors.specs.Answers.{combinedOrZero}
 use Rattle.factors.specs.Rounded.{combinedAt, correctedAt}
 use Rattle.run.specs.Figures.{correctedBy}
-use Rattle.run.proofs.correct.Statement.{statement}
 use Rattle.run.proofs.correct.Tie as tie
 
 abbrev start : tie.After-combined-or-zero → tie.Start
@@ -32,5 +31,5 @@ returns c =
     let most = at-most (a .volume * d .combined-or-zero .result * 10000) 1600000000 {d = 100000000} (omega arith) (omega (arith, product d)) in
     ((λ i. record { cpl = a .cpl; factor = factor-is d i; volume = volume i }), omega (arith, c .round .ensures, most))
 
-pub correct-spec : {M : Type 1} → statement M
+pub correct-spec : {M : Type 1} → Rattle.run.proofs.correct.Statement.statement M
 correct-spec = tie.close (tie.spec (search needs) (search needs) (λ c. omega (arith, product c)) (λ c κs. omega (arith, product c)) returns)

@@ -5,7 +5,6 @@ use borrow.Author.Needs.{needs}
 use denote.Ref.{now}
 use Rattle.run.proofs.Laws.{run-past}
 use Rattle.run.specs.Record.{runAt}
-use Rattle.run.proofs.decode.Statement.{statement}
 use Rattle.run.proofs.decode.Tie as tie
 
 returns : tie.Need-returns
@@ -16,5 +15,5 @@ returns-2 : tie.Need-returns-2
 unfolding runAt
 returns-2 c = c .read-fields2 .ensures ∙ run-past (now (c .before .before .before .args .s)) (omega (arith, c .before .if1 .left))
 
-pub decode-spec : {M : Type 1} → statement M
+pub decode-spec : {M : Type 1} → Rattle.run.proofs.decode.Statement.statement M
 decode-spec = tie.close (tie.spec (λ c. search needs) (λ c κs. search needs) returns (λ c κs. search needs) returns-2)

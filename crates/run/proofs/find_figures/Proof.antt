@@ -16,7 +16,6 @@ use Rattle.factors.specs.Answers.{ctsOf}
 use Rattle.factors.specs.declared.Places.the-variants.{Four}
 use Rattle.run.proofs.Laws.{ctl-most, RunFits, run-fits, ProverFits, prover-fits, four-small, two-small}
 use Rattle.run.specs.Figures.{steelCts, steelCps, correctedBy, atProver, atMeter, figuresFrom}
-use Rattle.run.proofs.find_figures.Statement.{statement}
 use Rattle.run.proofs.find_figures.Tie as tie
 
 abbrev start : tie.After-value-or-zero2 → tie.Start
@@ -91,7 +90,7 @@ returns c =
     let factor = c .round .ensures ∙ (λ i. rounded 4 (prover-is p i .volume over meter-is m i .volume)) in
     λ i. record { indicated = start s .args .indicated; cts = cts-is s i; cps = cps-is s i; prover = prover-is p i; meter = meter-is m i; factor = factor i }
 
-pub find-figures-spec : {M : Type 1} → statement M
+pub find-figures-spec : {M : Type 1} → Rattle.run.proofs.find_figures.Statement.statement M
 find-figures-spec =
     tie.close
     (tie.spec (search needs) (search needs) (search needs) (search needs) (λ c κs. runs c .prover .liquid) (search needs) (search needs)

@@ -6,7 +6,6 @@ use mir.Syntax.{w16}
 use mir.ValLaws.{toZ-ofZ}
 use Rattle.ranges.specs.Table.{temperatureOk}
 use Rattle.run.specs.Record.{sideOk}
-use Rattle.run.proofs.is_side.Statement.{statement}
 use Rattle.run.proofs.is_side.Tie as tie
 
 returns : tie.Need-returns
@@ -16,5 +15,5 @@ returns c =
     let warm = t .is-temperature .ensures ∙ ap temperatureOk (toZ-ofZ w16 (t .before .before .before .args .side .temperature) (record { sfits = t .before .struct-told .given .0 .1 })) in
     λ i. warm i && (c .before .is-ctl .ensures i && c .is-liquid .ensures i)
 
-pub is-side-spec : {M : Type 1} → statement M
+pub is-side-spec : {M : Type 1} → Rattle.run.proofs.is_side.Statement.statement M
 is-side-spec = tie.close (tie.spec (search needs) (search needs) (search needs) (search needs) returns)

@@ -4,7 +4,6 @@ use mathlib.Core.Path.{ap, _∙_}
 use borrow.Author.Needs.{needs}
 use Rattle.refusals.specs.Told.{demand, demandAt, orElse}
 use Rattle.run.specs.Answers.{givenFault}
-use Rattle.run.proofs.judge.Statement.{statement}
 use Rattle.run.proofs.judge.Tie as tie
 
 returns : tie.Need-returns
@@ -18,7 +17,7 @@ returns c =
     let five = run .demand3 .ensures ∙ ap (λ (b : Bool). demandAt b 5 (prover .before .before .args .at)) (run .before .is-run .ensures) in
     c .or-else2 .ensures ∙ (λ i. orElse (three i) ((c .before .or-else .ensures ∙ (λ j. orElse (four j) (five j))) i))
 
-pub judge-spec : {M : Type 1} → statement M
+pub judge-spec : {M : Type 1} → Rattle.run.proofs.judge.Statement.statement M
 judge-spec =
     tie.close
     (tie.spec (search needs) (search needs) (search needs) (search needs) (search needs) (search needs) (search needs) (search needs) returns)

@@ -11,7 +11,6 @@ use Rattle.run.proofs.Laws.{run-fits}
 use Rattle.run.specs.Answers.{figuresFault, figuresTold}
 use Rattle.run.specs.Figures.{indicated, figuresFrom, figuresOf}
 use Rattle.run.specs.declared.Figures.{Figures}
-use Rattle.run.proofs.judge_figures.Statement.{statement}
 use Rattle.run.proofs.judge_figures.Tie as tie
 
 abbrev start : tie.After-is-volume → tie.Start
@@ -60,7 +59,7 @@ returns-3 : tie.Need-returns-3
 unfolding figuresTold figuresFault
 returns-3 c = sym (judged-fault _ (orElse-first _ (demandAt-fails 7 _ (sym (judges-volume (c .before)) ∙ c .if1 .left))))
 
-pub judge-figures-spec : {M : Type 1} → statement M
+pub judge-figures-spec : {M : Type 1} → Rattle.run.proofs.judge_figures.Statement.statement M
 judge-figures-spec =
     tie.close
     (tie.spec (search needs) (search needs) round-requires (search needs) find-figures-requires (search needs) returns returns-2 returns-3)

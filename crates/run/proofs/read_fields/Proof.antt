@@ -4,7 +4,6 @@ use borrow.Author.Needs.{needs}
 use mir.Syntax.{w16}
 use mir.ValLaws.{toZ-ofZ}
 use Rattle.run.specs.Record.{runFrom}
-use Rattle.run.proofs.read_fields.Statement.{statement}
 use Rattle.run.proofs.read_fields.Tie as tie
 
 returns : tie.Need-returns
@@ -21,7 +20,7 @@ returns c =
       meter = record { temperature = metered i; ctl = c .before .before .before .word-at4 .ensures i; liquid = record { pressure = c .before .before .word-at5 .ensures i; compressibility = c .before .word-at6 .ensures i } };
     }
 
-pub read-fields-spec : {M : Type 1} → statement M
+pub read-fields-spec : {M : Type 1} → Rattle.run.proofs.read_fields.Statement.statement M
 read-fields-spec =
     tie.close
     (tie.spec (search needs) (search needs) (search needs) (search needs) (search needs) (search needs) (search needs) (search needs) (search needs)

@@ -11,7 +11,6 @@ use Rattle.run.specs.Answers.{givenFault, figuresTold, shownOf}
 use Rattle.run.specs.Record.{runAt, runOk, unnamedOk}
 use Rattle.run.specs.declared.Figures.{Figures}
 use Rattle.run.specs.declared.Run.{Run}
-use Rattle.run.proofs.show.Statement.{statement}
 use Rattle.run.proofs.show.Tie as tie
 
 abbrev judging : tie.After-or-else2 → tie.After-judge
@@ -55,7 +54,7 @@ returns-2 : tie.Need-returns-2
 unfolding shownOf
 returns-2 c = let o = c .before .before .before in sym (ap (λ (f : Fault). unless f (figures o)) (sym (judges o) ∙ ap faultOf (c .before .verdict .given .1)))
 
-pub show-spec : {M : Type 1} → statement M
+pub show-spec : {M : Type 1} → Rattle.run.proofs.show.Statement.statement M
 show-spec =
     tie.close
     (tie.spec (search needs) (search needs) (search needs) (search needs) (search needs) (search needs) (search needs) (search needs)

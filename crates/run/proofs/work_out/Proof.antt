@@ -5,7 +5,6 @@ use Rattle.refusals.specs.Told.{Fault, unless}
 use Rattle.refusals.specs.Verdict.{faultOf}
 use Rattle.run.proofs.Laws.{given-fits}
 use Rattle.run.specs.Answers.{figuresTold, workedOf}
-use Rattle.run.proofs.work_out.Statement.{statement}
 use Rattle.run.proofs.work_out.Tie as tie
 
 judge-figures-requires : tie.Need-judge-figures-requires
@@ -26,5 +25,5 @@ returns-2 c =
     let a = j .before .args in
     sym (ap (λ (f : Fault). unless f (figuresTold (a .prover) (a .k) (a .run) (a .at))) (sym (j .judge .ensures) ∙ ap faultOf (c .before .verdict .given .1)))
 
-pub work-out-spec : {M : Type 1} → statement M
+pub work-out-spec : {M : Type 1} → Rattle.run.proofs.work_out.Statement.statement M
 work-out-spec = tie.close (tie.spec (search needs) (search needs) judge-figures-requires (search needs) returns returns-2)

@@ -11,7 +11,6 @@ use Rattle.ticket.specs.Formulas.{indicated, factor, gross, net}
 use Rattle.ticket.specs.Answers.{volumes}
 use Rattle.ticket.specs.declared.Ticket.{Ticket}
 use Rattle.ticket.proofs.Magnitudes.{Bounds, in-range, factor-by-words, supplied-small, product-small, measured-small, kept-small}
-use Rattle.ticket.proofs.correct.Statement.{statement}
 use Rattle.ticket.proofs.correct.Tie as tie
 
 abbrev start : tie.After-value-or-zero → tie.Start
@@ -60,7 +59,7 @@ returns : tie.Need-returns
 unfolding volumes
 returns c = λ i. record { factor = factor-is (c .before .before) i; gross = gross-is (c .before) i; net = net-is c i }
 
-pub correct-spec : {M : Type 1} → statement M
+pub correct-spec : {M : Type 1} → Rattle.ticket.proofs.correct.Statement.statement M
 correct-spec =
     tie.close
     (tie.spec (search needs) (search needs) (search needs) (search needs) (search needs) (search needs)

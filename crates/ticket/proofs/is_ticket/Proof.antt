@@ -2,7 +2,6 @@
 use mathlib.Core.Bool.{_&&_}
 use borrow.Author.Needs.{needs}
 use Rattle.ticket.specs.Ranges.{ticketOk}
-use Rattle.ticket.proofs.is_ticket.Statement.{statement}
 use Rattle.ticket.proofs.is_ticket.Tie as tie
 
 returns : tie.Need-returns
@@ -16,7 +15,7 @@ returns c =
     λ i. opening .is-reading .ensures i
     && (closing .is-reading2 .ensures i && (mf .is-meter-factor .ensures i && (ctl .is-ctl .ensures i && (liquid .is-liquid .ensures i && c .is-sediment .ensures i))))
 
-pub is-ticket-spec : {M : Type 1} → statement M
+pub is-ticket-spec : {M : Type 1} → Rattle.ticket.proofs.is_ticket.Statement.statement M
 is-ticket-spec =
     tie.close
     (tie.spec (search needs) (search needs) (search needs) (search needs) (search needs) (search needs) (search needs) (search needs) (search needs)

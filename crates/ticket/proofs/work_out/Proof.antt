@@ -10,7 +10,6 @@ use Rattle.refusals.proofs.Laws.{judged-fine, judged-fault, demand-was, orElse-
 use Rattle.ticket.specs.Ranges.{ticketOk}
 use Rattle.ticket.specs.Answers.{ticketOf}
 use Rattle.ticket.specs.declared.Ticket.{Ticket}
-use Rattle.ticket.proofs.work_out.Statement.{statement}
 use Rattle.ticket.proofs.work_out.Tie as tie
 
 abbrev fields : Ticket → Fault
@@ -47,7 +46,7 @@ returns-2 : tie.Need-returns-2
 unfolding ticketOf
 returns-2 c = sym (judged-fault _ (sym (judged-by (c .before .before .before)) ∙ ap faultOf (c .before .refusal .given .1)))
 
-pub work-out-spec : {M : Type 1} → statement M
+pub work-out-spec : {M : Type 1} → Rattle.ticket.proofs.work_out.Statement.statement M
 work-out-spec =
     tie.close
     (tie.spec (search needs) (search needs) (search needs) (search needs) (λ c. search needs) correct-requires (search needs) returns returns-2)

@@ -6,7 +6,6 @@ use borrow.Author.Needs.{needs}
 use lib.ListN.{length, drop}
 use Rattle.words.specs.Words.{wordCount}
 use Rattle.words.proofs.Words.{count-step, count-end}
-use Rattle.words.proofs.count_words.Statement.{statement}
 use Rattle.words.proofs.count_words.Tie as tie
 
 abbrev Inv-loop : tie.InvT-loop
@@ -21,7 +20,7 @@ loop-again c = let l = c .before .before .before .loop in let s = c .before .bef
 returns : tie.Need-returns Inv-loop μ-loop
 returns c = let l = c .before .loop in let s = c .before .before .before .args .s .now in omega (arith, count-end s (l .i) (omega arith))
 
-pub count-words-spec : {M : Type 1} → statement M
+pub count-words-spec : {M : Type 1} → Rattle.words.proofs.count_words.Statement.statement M
 count-words-spec =
     tie.close
     (tie.spec Inv-loop μ-loop (search needs) (search needs) (search needs) (search needs) (search needs) (search needs) loop-again returns)

@@ -6,7 +6,6 @@ use borrow.Author.Needs.{needs}
 use lib.ListN.{length, drop}
 use Rattle.words.specs.Words.{firstWord}
 use Rattle.words.proofs.Words.{first-space, first-other, first-end, taken}
-use Rattle.words.proofs.end_word.Statement.{statement}
 use Rattle.words.proofs.end_word.Tie as tie
 
 abbrev Inv-loop : tie.InvT-loop
@@ -24,5 +23,5 @@ loop-again c = let i = c .before .before .before .loop .i in let s = c .before .
 returns-2 : tie.Need-returns-2 Inv-loop μ-loop
 returns-2 c = let i = c .before .loop .i in let s = c .before .before .args .s .now in (omega (arith, ap length (first-end s i (omega arith))), omega arith)
 
-pub end-word-spec : {M : Type 1} → statement M
+pub end-word-spec : {M : Type 1} → Rattle.words.proofs.end_word.Statement.statement M
 end-word-spec = tie.close (tie.spec Inv-loop μ-loop (search needs) (search needs) returns (search needs) (search needs) loop-again returns-2)

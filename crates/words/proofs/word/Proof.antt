@@ -6,7 +6,6 @@ use borrow.Author.Needs.{needs}
 use lib.ListN.{length, take, drop}
 use Rattle.words.specs.Words.{firstWord, wordOf}
 use Rattle.words.proofs.Words.{taken, word-start, word-step, word-last}
-use Rattle.words.proofs.word.Statement.{statement}
 use Rattle.words.proofs.word.Tie as tie
 
 abbrev Inv-loop : tie.InvT-loop
@@ -31,7 +30,7 @@ returns c =
     let k : c .before .end-word .result - l .at ≡ length (firstWord t) = omega (arith, c .before .end-word .ensures .0) in
     ap (λ (m : ℕ). take m t) k ∙ taken t ∙ sym (word-last (a .n) (l .i) t (omega arith)) ∙ sym (l .inv .0)
 
-pub word-spec : {M : Type 1} → statement M
+pub word-spec : {M : Type 1} → Rattle.words.proofs.word.Statement.statement M
 word-spec =
     tie.close
     (tie.spec Inv-loop μ-loop loop-holds (search needs) (search needs) (search needs) loop-again (search needs) (search needs) (search needs)

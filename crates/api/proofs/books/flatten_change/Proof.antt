@@ -4,11 +4,7 @@ use borrow.Author.Needs.{needs}
 use Rattle.book.specs.Answers.{toldChange}
 use Rattle.book.specs.declared.Change.{Change}
 use Rattle.api.specs.Flat.{flatDone}
-use Rattle.api.proofs.books.flatten_change.Statement.{statement}
 use Rattle.api.proofs.books.flatten_change.Tie as tie
-
-enum-told : tie.Need-enum-told
-enum-told c = search needs
 
 returns : tie.Need-returns
 unfolding flatDone
@@ -20,5 +16,5 @@ returns-2 c =
     (λ i. record { number = c .before .give-back .ensures i .number; at = c .before .give-back .ensures i .at })
     ∙ sym (ap (λ (a : Change). flatDone (toldChange a)) (c .before .before .before .answer .given .1))
 
-pub flatten-change-spec : {M : Type 1} → statement M
-flatten-change-spec = tie.close (tie.spec enum-told (search needs) (search needs) (search needs) returns returns-2)
+pub flatten-change-spec : {M : Type 1} → Rattle.api.proofs.books.flatten_change.Statement.statement M
+flatten-change-spec = tie.close (tie.spec (search needs) (search needs) (search needs) (search needs) returns returns-2)

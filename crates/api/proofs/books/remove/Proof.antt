@@ -2,7 +2,6 @@
 use mathlib.Core.Path.{ap, _∙_}
 use Rattle.api.specs.Flat.{flatDone}
 use borrow.Author.Needs.{needs}
-use Rattle.api.proofs.books.remove.Statement.{statement}
 use Rattle.api.proofs.books.remove.Tie as tie
 
 returns : tie.Need-returns
@@ -10,5 +9,5 @@ returns c =
     let left = c .before .withdraw .ensures in
     (c .flatten-changed .ensures .0 ∙ ap flatDone (left .0), c .flatten-changed .ensures .1 ∙ left .1)
 
-pub remove-spec : {M : Type 1} → statement M
+pub remove-spec : {M : Type 1} → Rattle.api.proofs.books.remove.Statement.statement M
 remove-spec = tie.close (tie.spec (search needs) (search needs) returns)

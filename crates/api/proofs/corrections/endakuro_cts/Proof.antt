@@ -6,7 +6,6 @@ use Rattle.factors.specs.Answers.{ctsOf}
 use Rattle.factors.specs.Places.{digits}
 use Rattle.api.specs.Flat.{flatFactor}
 use borrow.Author.Needs.{needs}
-use Rattle.api.proofs.corrections.endakuro_cts.Statement.{statement}
 use Rattle.api.proofs.corrections.endakuro_cts.Tie as tie
 
 returns : tie.Need-returns
@@ -14,5 +13,5 @@ returns c =
     let s = c .before .before .before .before in
     c .flatten .ensures ∙ ap flatFactor (c .before .cts .ensures ∙ (λ i. ctsOf (digits (c .before .before .choose-places .ensures i)) (c .before .before .before .choose-metal .ensures i) (toZ-ofZ w16 (s .args .t) (s .fits .t) i)))
 
-pub endakuro-cts-spec : {M : Type 1} → statement M
+pub endakuro-cts-spec : {M : Type 1} → Rattle.api.proofs.corrections.endakuro_cts.Statement.statement M
 endakuro-cts-spec = tie.close (tie.spec (search needs) (search needs) (search needs) (search needs) returns)

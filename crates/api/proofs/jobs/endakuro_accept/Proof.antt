@@ -11,7 +11,6 @@ use Rattle.proving.proofs.Accepted.{same-number, Begins, done-begins}
 use Rattle.api.specs.Flat.{partOf}
 use Rattle.api.specs.Given.{proverBy}
 use borrow.Author.Needs.{needs}
-use Rattle.api.proofs.jobs.endakuro_accept.Statement.{statement}
 use Rattle.api.proofs.jobs.endakuro_accept.Tie as tie
 
 abbrev start : tie.After-unread2 → tie.Start
@@ -36,9 +35,6 @@ begun c =
 sub-t13 : tie.Need-sub-t13
 sub-t13 c = omega (arith, begun c .first)
 
-enum-told : tie.Need-enum-told
-enum-told c = search needs
-
 returns : tie.Need-returns
 returns c =
     let b = begun c in
@@ -51,7 +47,7 @@ returns-2 c =
     let a = start u .args in
     sym (ap partOf (same-number 1 (proverBy (a .prover)) (a .k) (a .limit) (now (a .records)) asked (sym (job u) ∙ ap told (c .enum-told .given .1))))
 
-pub endakuro-accept-spec : {M : Type 1} → statement M
+pub endakuro-accept-spec : {M : Type 1} → Rattle.api.proofs.jobs.endakuro_accept.Statement.statement M
 endakuro-accept-spec =
     tie.close
-    (tie.spec (search needs) (search needs) (search needs) (search needs) (search needs) sub-t13 (search needs) enum-told returns returns-2)
+    (tie.spec (search needs) (search needs) (search needs) (search needs) (search needs) sub-t13 (search needs) (search needs) returns returns-2)

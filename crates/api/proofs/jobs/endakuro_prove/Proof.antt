@@ -8,7 +8,6 @@ use Rattle.report.specs.Record.{bytesOfReport}
 use Rattle.proving.specs.Job.{jobOf}
 use Rattle.api.specs.Flat.{flatReport}
 use borrow.Author.Needs.{needs}
-use Rattle.api.proofs.jobs.endakuro_prove.Statement.{statement}
 use Rattle.api.proofs.jobs.endakuro_prove.Tie as tie
 
 returns : tie.Need-returns
@@ -18,5 +17,5 @@ returns c =
     let job = ap (λ (p : Prover). jobOf (a .request) p (a .k) (a .limit) (now (a .records)) (length (now (a .buffer)))) (w .before .before .take-up .ensures) in
     (c .flatten .ensures ∙ ap flatReport (w .prove .ensures .0 ∙ job), w .prove .ensures .1 ∙ (λ i. leftBy (job i) bytesOfReport (now (a .buffer))))
 
-pub endakuro-prove-spec : {M : Type 1} → statement M
+pub endakuro-prove-spec : {M : Type 1} → Rattle.api.proofs.jobs.endakuro_prove.Statement.statement M
 endakuro-prove-spec = tie.close (tie.spec (search needs) (search needs) (search needs) (search needs) returns)

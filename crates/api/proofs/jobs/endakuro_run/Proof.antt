@@ -5,7 +5,6 @@ use Rattle.factors.specs.declared.Prover.{Prover}
 use Rattle.run.specs.Answers.{shownOf}
 use Rattle.api.specs.Flat.{flatRun}
 use borrow.Author.Needs.{needs}
-use Rattle.api.proofs.jobs.endakuro_run.Statement.{statement}
 use Rattle.api.proofs.jobs.endakuro_run.Tie as tie
 
 returns : tie.Need-returns
@@ -13,5 +12,5 @@ returns c =
     let a = c .before .before .before .before .args in
     c .flatten-run .ensures ∙ ap flatRun (c .before .show .ensures ∙ ap (λ (p : Prover). shownOf p (a .k) (now (a .bytes))) (c .before .before .take-up .ensures))
 
-pub endakuro-run-spec : {M : Type 1} → statement M
+pub endakuro-run-spec : {M : Type 1} → Rattle.api.proofs.jobs.endakuro_run.Statement.statement M
 endakuro-run-spec = tie.close (tie.spec (search needs) (search needs) (search needs) returns)

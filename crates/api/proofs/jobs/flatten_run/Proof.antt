@@ -5,7 +5,6 @@ use Rattle.run.specs.Answers.{told}
 use Rattle.run.specs.declared.Worked.{Worked}
 use Rattle.api.specs.Flat.{flatRun, runWith, noFigures}
 use borrow.Author.Needs.{needs}
-use Rattle.api.proofs.jobs.flatten_run.Statement.{statement}
 use Rattle.api.proofs.jobs.flatten_run.Tie as tie
 
 returns : tie.Need-returns
@@ -18,5 +17,5 @@ returns-2 c =
     ap (λ (g : GivenBack). runWith (g .number) (g .at) noFigures) (c .before .give-back .ensures)
     ∙ sym (ap (λ (a : Worked). flatRun (told a)) (c .before .before .before .worked2 .given .1))
 
-pub flatten-run-spec : {M : Type 1} → statement M
+pub flatten-run-spec : {M : Type 1} → Rattle.api.proofs.jobs.flatten_run.Statement.statement M
 flatten-run-spec = tie.close (tie.spec (search needs) (search needs) (search needs) (search needs) returns returns-2)

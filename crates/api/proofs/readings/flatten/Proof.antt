@@ -7,7 +7,6 @@ use Rattle.live.specs.Live.{told}
 use Rattle.live.specs.declared.Live.{Live}
 use Rattle.api.specs.Flat.{flatLive, liveWith, noReading}
 use borrow.Author.Needs.{needs}
-use Rattle.api.proofs.readings.flatten.Statement.{statement}
 use Rattle.api.proofs.readings.flatten.Tie as tie
 
 -- what the machine reads back of a signed number is that number
@@ -26,5 +25,5 @@ returns-2 c =
     ap (λ (g : GivenBack). liveWith (g .number) (g .at) noReading) (c .before .give-back .ensures)
     ∙ sym (ap (λ (a : Live). flatLive (told a)) (c .before .before .before .live2 .given .1))
 
-pub flatten-spec : {M : Type 1} → statement M
+pub flatten-spec : {M : Type 1} → Rattle.api.proofs.readings.flatten.Statement.statement M
 flatten-spec = tie.close (tie.spec (search needs) (search needs) (search needs) (search needs) returns returns-2)

@@ -2,7 +2,6 @@
 use mathlib.Core.Path.{ap, _∙_}
 use Rattle.api.specs.Flat.{flatReport}
 use borrow.Author.Needs.{needs}
-use Rattle.api.proofs.reports.endakuro_write.Statement.{statement}
 use Rattle.api.proofs.reports.endakuro_write.Tie as tie
 
 returns : tie.Need-returns
@@ -10,5 +9,5 @@ returns c =
     let w = c .before .before .before in
     (c .flatten .ensures ∙ ap flatReport (w .write .ensures .0), w .write .ensures .1)
 
-pub endakuro-write-spec : {M : Type 1} → statement M
+pub endakuro-write-spec : {M : Type 1} → Rattle.api.proofs.reports.endakuro_write.Statement.statement M
 endakuro-write-spec = tie.close (tie.spec (search needs) (search needs) (search needs) returns)

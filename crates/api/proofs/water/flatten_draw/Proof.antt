@@ -5,7 +5,6 @@ use Rattle.refusals.specs.declared.GivenBack.{GivenBack}
 use Rattle.draw.specs.Answers.{toldDraw}
 use Rattle.draw.specs.declared.WaterDraw.{WaterDraw}
 use Rattle.api.specs.Flat.{flatDraw, drawWith, noBase}
-use Rattle.api.proofs.water.flatten_draw.Statement.{statement}
 use Rattle.api.proofs.water.flatten_draw.Tie as tie
 
 returns : tie.Need-returns
@@ -18,5 +17,5 @@ returns-2 c =
     ap (λ (g : GivenBack). drawWith (g .number) (g .at) noBase) (c .before .give-back .ensures)
     ∙ sym (ap (λ (a : WaterDraw). flatDraw (toldDraw a)) (c .before .before .before .answer2 .given .1))
 
-pub flatten-draw-spec : {M : Type 1} → statement M
+pub flatten-draw-spec : {M : Type 1} → Rattle.api.proofs.water.flatten_draw.Statement.statement M
 flatten-draw-spec = tie.close (tie.spec (search needs) (search needs) (search needs) (search needs) returns returns-2)

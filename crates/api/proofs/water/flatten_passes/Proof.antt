@@ -5,7 +5,6 @@ use Rattle.draw.specs.Answers.{toldPasses}
 use Rattle.draw.specs.declared.Counted.{Counted}
 use Rattle.api.specs.Flat.{flatPasses, passesWith}
 use borrow.Author.Needs.{needs}
-use Rattle.api.proofs.water.flatten_passes.Statement.{statement}
 use Rattle.api.proofs.water.flatten_passes.Tie as tie
 
 returns : tie.Need-returns
@@ -18,5 +17,5 @@ returns-2 c =
     let s = c .before .before .before .before .before in
     ap (λ (g : GivenBack). passesWith (g .number) (g .at) 0 (s .args .volumes)) (c .before .give-back .ensures) ∙ sym (ap (λ (a : Counted). flatPasses (toldPasses a) (s .args .volumes)) (c .before .before .before .answer2 .given .1))
 
-pub flatten-passes-spec : {M : Type 1} → statement M
+pub flatten-passes-spec : {M : Type 1} → Rattle.api.proofs.water.flatten_passes.Statement.statement M
 flatten-passes-spec = tie.close (tie.spec (search needs) (search needs) (search needs) (search needs) returns returns-2)

@@ -2,12 +2,11 @@
 use mathlib.Core.Path.{refl}
 use Rattle.book.specs.Figures.{emptyBook, shippers}
 use Rattle.book.specs.Line.{lineOf}
-use Rattle.book.proofs.Book.empty.Statement.{statement}
 use Rattle.book.proofs.Book.empty.Tie as tie
 
 returns : tie.Need-returns
 unfolding emptyBook shippers lineOf
 returns c = refl
 
-pub empty-spec : {M : Type 1} → statement M
+pub empty-spec : {M : Type 1} → Rattle.book.proofs.Book.empty.Statement.statement M
 empty-spec = tie.close (tie.spec returns)

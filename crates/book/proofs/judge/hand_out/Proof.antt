@@ -10,7 +10,6 @@ use Rattle.book.specs.Calls.{ofTurn, oldestOf, handedOut}
 use Rattle.book.specs.Figures.{shippers, lineAt}
 use Rattle.book.proofs.Books.{SoundBook, sound-is, oldest-first}
 use Rattle.book.proofs.Kept.{NoneBefore, turn-is, turn-none}
-use Rattle.book.proofs.judge.hand_out.Statement.{statement}
 use Rattle.book.proofs.judge.hand_out.Tie as tie
 
 abbrev Inv-loop : tie.InvT-loop
@@ -60,7 +59,7 @@ returns-2 c =
     let start = c .before .before in
     rw (turn-none (start .args .t1) (sound start) (λ j l h. turn .inv .2 j l (omega arith)))
 
-pub hand-out-spec : {M : Type 1} → statement M
+pub hand-out-spec : {M : Type 1} → Rattle.book.proofs.judge.hand_out.Statement.statement M
 hand-out-spec =
     tie.close
     (tie.spec Inv-loop μ-loop (λ c. (omega arith, omega arith, λ j l h. absurd (omega arith))) add-shipper (λ c. omega arith) (λ c. omega arith)

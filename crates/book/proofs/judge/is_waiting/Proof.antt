@@ -4,7 +4,6 @@ use Rattle.book.specs.Figures.{ceiling, lineAt, waitingOf}
 use Rattle.book.proofs.Books.{SoundLine}
 use Rattle.book.proofs.Calls.{Called, called}
 use Rattle.book.proofs.Lines.{place-tells}
-use Rattle.book.proofs.judge.is_waiting.Statement.{statement}
 use Rattle.book.proofs.judge.is_waiting.Tie as tie
 
 call : (c : tie.Start) → Called (c .args .t1) (c .args .shipper) (c .args .number)
@@ -25,5 +24,5 @@ returns c =
     let l = line start in
     place-tells (lineAt (start .args .t1) (start .args .shipper)) (omega arith) (l .wide) 0 (start .args .number) _ (c .before .place .ensures)
 
-pub is-waiting-spec : {M : Type 1} → statement M
+pub is-waiting-spec : {M : Type 1} → Rattle.book.proofs.judge.is_waiting.Statement.statement M
 is-waiting-spec = tie.close (tie.spec (λ c. omega arith) (λ c. call c .known) place-requires returns)

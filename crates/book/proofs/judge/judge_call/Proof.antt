@@ -2,7 +2,6 @@
 use borrow.Author.Needs.{needs}
 use Rattle.book.specs.Calls.{callFault}
 use Rattle.book.specs.Figures.{shippers}
-use Rattle.book.proofs.judge.judge_call.Statement.{statement}
 use Rattle.book.proofs.judge.judge_call.Tie as tie
 
 returns : tie.Need-returns
@@ -14,5 +13,5 @@ returns c =
     let sound = shipper .before in
     rw (c .or-else2 .ensures, inner .or-else .ensures, number .demand3 .ensures, shipper .demand2 .ensures, sound .demand .ensures, sound .before .is-sound .ensures)
 
-pub judge-call-spec : {M : Type 1} → statement M
+pub judge-call-spec : {M : Type 1} → Rattle.book.proofs.judge.judge_call.Statement.statement M
 judge-call-spec = tie.close (tie.spec (search needs) (search needs) (search needs) (search needs) (search needs) (search needs) returns)

@@ -7,7 +7,6 @@ use Rattle.book.specs.Figures.{overShippers, places, reserve, ceiling, c
 use Rattle.book.specs.Sound.{areLinesSound}
 use Rattle.book.proofs.Books.{has-count, lines-sound}
 use Rattle.book.proofs.Calls.{Called, called}
-use Rattle.book.proofs.judge.judge_entry.Statement.{statement}
 use Rattle.book.proofs.judge.judge_entry.Tie as tie
 
 call : (c : tie.Start) → Called (c .args .t1) (c .args .shipper) (c .args .number)
@@ -30,7 +29,7 @@ returns c =
     let start = used .before .before in
     rw (c .or-else2 .ensures, inner .or-else .ensures, third .demand3 .ensures, second .demand2 .ensures, first .demand .ensures, used .count-commons-used .ensures, used .before .is-waiting .ensures, many start)
 
-pub judge-entry-spec : {M : Type 1} → statement M
+pub judge-entry-spec : {M : Type 1} → Rattle.book.proofs.judge.judge_entry.Statement.statement M
 judge-entry-spec =
     tie.close
     (tie.spec (λ c κs. c .pre) (λ c κs. lines (c .before)) (search needs) (λ c. call (c .before .before) .known) (search needs) (search needs)

@@ -3,7 +3,6 @@ use mathlib.Core.Path.{sym, ap, _∙_}
 use borrow.Author.Needs.{needs}
 use Rattle.refusals.specs.Verdict.{faultOf}
 use Rattle.book.specs.Calls.{requestFault}
-use Rattle.book.proofs.judge.judge_request.Statement.{statement}
 use Rattle.book.proofs.judge.judge_request.Tie as tie
 
 judge-entry-requires : tie.Need-judge-entry-requires
@@ -17,5 +16,5 @@ returns-2 : tie.Need-returns-2
 unfolding requestFault
 returns-2 c = let told = ap faultOf (c .enum-told2 .given .1) in rw (sym (c .before .before .judge-call .ensures) ∙ told) told
 
-pub judge-request-spec : {M : Type 1} → statement M
+pub judge-request-spec : {M : Type 1} → Rattle.book.proofs.judge.judge_request.Statement.statement M
 judge-request-spec = tie.close (tie.spec (search needs) (search needs) judge-entry-requires (search needs) returns returns-2)

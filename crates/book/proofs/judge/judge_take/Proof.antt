@@ -2,7 +2,6 @@
 use mathlib.Core.Path.{sym, _∙_}
 use borrow.Author.Needs.{needs}
 use Rattle.book.specs.Calls.{takeOf}
-use Rattle.book.proofs.judge.judge_take.Statement.{statement}
 use Rattle.book.proofs.judge.judge_take.Tie as tie
 
 hand-out-requires : tie.Need-hand-out-requires
@@ -16,5 +15,5 @@ returns-2 : tie.Need-returns-2
 unfolding takeOf
 returns-2 c = rw (sym (c .before .is-sound .ensures) ∙ c .if1 .left)
 
-pub judge-take-spec : {M : Type 1} → statement M
+pub judge-take-spec : {M : Type 1} → Rattle.book.proofs.judge.judge_take.Statement.statement M
 judge-take-spec = tie.close (tie.spec (search needs) hand-out-requires returns returns-2)

@@ -7,7 +7,6 @@ use native.Mathlib.Omega.{arith}
 use lib.ListN.{length, take, drop, length-map}
 use Rattle.octets.specs.Lists.{isOneOf}
 use Rattle.book.proofs.Waiting.{missed-start, missed-next}
-use Rattle.book.proofs.queue.place.Statement.{statement}
 use Rattle.book.proofs.queue.place.Tie as tie
 
 abbrev Inv-loop : tie.InvT-loop
@@ -43,7 +42,7 @@ returns-2 c =
     let end : turn .i ≡ start .args .line .count = omega arith in
     (omega arith, omega arith, rw (sym end) (turn .inv .2), λ h. absurd (omega arith))
 
-pub place-spec : {M : Type 1} → statement M
+pub place-spec : {M : Type 1} → Rattle.book.proofs.queue.place.Statement.statement M
 place-spec =
     tie.close
     (tie.spec Inv-loop μ-loop loop-holds (λ c. omega arith) (λ c. omega arith) returns (λ c. omega arith) (λ c. omega arith) loop-again returns-2)

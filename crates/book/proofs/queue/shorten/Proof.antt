@@ -9,7 +9,6 @@ use lib.ListN.{length, take, getD, set, replicate, length-map}
 use Rattle.book.specs.declared.Line.{Line}
 use Rattle.book.proofs.Lists.{givenUp, given-up-before, given-up-behind, length-given-up}
 use Rattle.book.proofs.Lines.{copied-next, line-shortened}
-use Rattle.book.proofs.queue.shorten.Statement.{statement}
 use Rattle.book.proofs.queue.shorten.Tie as tie
 
 abbrev Inv-loop : tie.InvT-loop
@@ -44,7 +43,7 @@ returns c =
     c .before .loop .inv .1 ∙ ap (λ (i : ℕ). take i (givenUp (a .args .at) (a .args .line .numbers)) ++ replicate (16 - i) 0) end in
     _∙_ {A = Line} (λ j. record { numbers = filled j; count = a .args .line .count - 1 }) (line-shortened (a .args .line) (a .args .at) (a .pre .0) (a .pre .1) (wide a) (a .pre .2))
 
-pub shorten-spec : {M : Type 1} → statement M
+pub shorten-spec : {M : Type 1} → Rattle.book.proofs.queue.shorten.Statement.statement M
 shorten-spec =
     tie.close
     (tie.spec Inv-loop μ-loop loop-holds (λ c. omega arith) (λ c. omega arith) (λ c. omega arith) (λ c. omega arith) (λ c. omega arith)

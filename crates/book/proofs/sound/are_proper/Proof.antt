@@ -13,7 +13,6 @@ use Rattle.book.specs.Line.{waiting, areProper}
 use Rattle.book.specs.declared.Line.{Line}
 use Rattle.book.proofs.Lists.{proper-step, proper-done}
 use Rattle.book.proofs.Lines.{waiting-count, place-tells}
-use Rattle.book.proofs.sound.are_proper.Statement.{statement}
 use Rattle.book.proofs.sound.are_proper.Tie as tie
 
 abbrev Inv-loop : tie.InvT-loop
@@ -74,7 +73,7 @@ returns-3 c =
     let many = waiting-count (start .args .line) (start .pre) (wide start) in
     sym (c .before .loop .inv .1 ∙ proper-done _ (c .before .loop .i) (omega arith))
 
-pub are-proper-spec : {M : Type 1} → statement M
+pub are-proper-spec : {M : Type 1} → Rattle.book.proofs.sound.are_proper.Statement.statement M
 are-proper-spec =
     tie.close
     (tie.spec Inv-loop μ-loop loop-holds (λ c. omega arith) (λ c. omega arith) returns (λ c. omega arith) (λ c κs. omega arith) returns-2

@@ -7,7 +7,6 @@ use borrow.Author.Tests.{eq-eqb, ne-eqb}
 use Rattle.octets.specs.FirstToLast.{holdsAll}
 use Rattle.octets.specs.Octets.{isZeroAt, zeroBetween}
 use Rattle.octets.proofs.FirstToLast.{tests, next, all-hit, done}
-use Rattle.book.proofs.sound.are_unused_zero.Statement.{statement}
 use Rattle.book.proofs.sound.are_unused_zero.Tie as tie
 
 abbrev Inv-loop : tie.InvT-loop
@@ -35,7 +34,7 @@ loop-again c =
 returns-2 : tie.Need-returns-2 Inv-loop μ-loop
 returns-2 c = sym (done tests (isZeroAt (c .before .before .before .args .line .numbers)) 16 (c .before .loop .i) (c .loop-test .left) (c .before .loop .inv .1))
 
-pub are-unused-zero-spec : {M : Type 1} → statement M
+pub are-unused-zero-spec : {M : Type 1} → Rattle.book.proofs.sound.are_unused_zero.Statement.statement M
 are-unused-zero-spec =
     tie.close
     (tie.spec Inv-loop μ-loop loop-holds (λ c. omega arith) (λ c. omega arith) returns (λ c. omega arith) (λ c. omega arith) loop-again returns-2)

@@ -3,7 +3,6 @@ use Prim.Native.Nat.{ℕ, _+_, _≤_, _<_}
 use native.Mathlib.Omega.{arith}
 use Rattle.book.specs.Figures.{overShippers, lineAt, commonsUsed}
 use Rattle.book.proofs.Books.{lines-are, few-at, beyond-count}
-use Rattle.book.proofs.sound.count_commons_used.Statement.{statement}
 use Rattle.book.proofs.sound.count_commons_used.Tie as tie
 
 few : (c : tie.Start) (s : ℕ) → s < 4 → lineAt (c .args .t1) s .count ≤ 8
@@ -31,7 +30,7 @@ returns c =
     let fourth = beyond-count b 3 (line 3 (omega arith)) (c .count-beyond4 .ensures) in
     λ i. first i + (second i + (third i + fourth i))
 
-pub count-commons-used-spec : {M : Type 1} → statement M
+pub count-commons-used-spec : {M : Type 1} → Rattle.book.proofs.sound.count_commons_used.Statement.statement M
 count-commons-used-spec =
     tie.close
     (tie.spec (λ c. omega arith) (λ c κs. tt) (λ c. omega arith) (λ c κs. tt) (λ c. omega arith) (λ c κs. tt) (λ c. omega arith) (λ c κs. tt)

@@ -6,7 +6,6 @@ use borrow.Author.Tests.{le-leb, lt-leb, eq-eqb}
 use lib.Dec.{leb, eqb}
 use lib.ListN.{length, length-map}
 use Rattle.book.specs.Sound.{isLineSound}
-use Rattle.book.proofs.sound.is_line_sound.Statement.{statement}
 use Rattle.book.proofs.sound.is_line_sound.Tie as tie
 
 wide : (c : tie.Start) → eqb (length (c .args .line .numbers)) 16 ≡ true
@@ -32,5 +31,5 @@ returns-3 c =
     let improper = sym (c .before .are-proper .ensures) ∙ c .if2 .left in
     rw (wide (c .before .before .before .before), le-leb _ _ (c .before .before .if1 .left), improper)
 
-pub is-line-sound-spec : {M : Type 1} → statement M
+pub is-line-sound-spec : {M : Type 1} → Rattle.book.proofs.sound.is_line_sound.Statement.statement M
 is-line-sound-spec = tie.close (tie.spec returns (λ c κs. omega arith) (λ c κs. omega arith) returns-2 returns-3)

@@ -7,7 +7,6 @@ use lib.Dec.{leb, eqb}
 use lib.ListN.{length, length-map}
 use Rattle.book.specs.Figures.{shippers, overShippers, places, reserve, commons}
 use Rattle.book.specs.Sound.{isSound}
-use Rattle.book.proofs.sound.is_sound.Statement.{statement}
 use Rattle.book.proofs.sound.is_sound.Tie as tie
 
 four : (c : tie.Start) → eqb (length (c .args .book .lines)) 4 ≡ true
@@ -33,5 +32,5 @@ returns-3 : tie.Need-returns-3
 unfolding isSound shippers
 returns-3 c = rw (four (c .before .before), sym (c .before .are-lines-sound .ensures) ∙ c .if1 .left)
 
-pub is-sound-spec : {M : Type 1} → statement M
+pub is-sound-spec : {M : Type 1} → Rattle.book.proofs.sound.is_sound.Statement.statement M
 is-sound-spec = tie.close (tie.spec (λ c κs. tt) (λ c κs. sym (c .before .are-lines-sound .ensures) ∙ c .if1 .taken) returns returns-2 returns-3)

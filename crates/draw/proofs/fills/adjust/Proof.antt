@@ -9,7 +9,6 @@ use mir.Val.{toZ, ofZ}
 use Rattle.ranges.proofs.Counted.{passed-on, sum-fits, cast-is, cast-fits}
 use Rattle.draw.specs.Drawn.{adjusted}
 use Rattle.draw.proofs.Fields.{Fields, fields}
-use Rattle.draw.proofs.fills.adjust.Statement.{statement}
 use Rattle.draw.proofs.fills.adjust.Tie as tie
 
 facts : (c : tie.Start) → Fields (c .args .fill)
@@ -24,7 +23,7 @@ high c = omega (arith, facts c .scale .high)
 above-is : (c : tie.After-struct-told) → natAbs (toZ w16 (ofZ w16 (toZ w16 (ofZ w16 (c .before .before .args .fill .scale)) +ℤ pos 10000))) ≡ facts (c .before .before) .scale .above
 above-is c = let s = c .before .before in ap natAbs (cast-is 10000 (back c) (facts s .scale .is) (high s))
 
-pub adjust-spec : {M : Type 1} → statement M
+pub adjust-spec : {M : Type 1} → Rattle.draw.proofs.fills.adjust.Statement.statement M
 unfolding adjusted
 adjust-spec =
     tie.close

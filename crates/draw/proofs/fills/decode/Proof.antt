@@ -2,7 +2,6 @@
 use borrow.Author.Needs.{needs}
 use Rattle.draw.specs.Fill.{fillAt, fillFrom}
 use Rattle.ranges.proofs.Counted.{passed-on}
-use Rattle.draw.proofs.fills.decode.Statement.{statement}
 use Rattle.draw.proofs.fills.decode.Tie as tie
 
 returns : tie.Need-returns
@@ -15,7 +14,7 @@ returns c =
     let back3 = passed-on (measure .signed-at3 .result) (measure .signed-at3 .ok) in
     cc
 
-pub decode-spec : {M : Type 1} → statement M
+pub decode-spec : {M : Type 1} → Rattle.draw.proofs.fills.decode.Statement.statement M
 decode-spec =
     tie.close
     (tie.spec (search needs) (search needs) (search needs) (search needs) (search needs) (search needs) (search needs) (search needs) (search needs)

@@ -2,7 +2,6 @@
 use borrow.Author.Needs.{needs}
 use Rattle.ranges.proofs.Counted.{passed-on}
 use Rattle.draw.specs.Fill.{fillOk}
-use Rattle.draw.proofs.fills.is_fill.Statement.{statement}
 use Rattle.draw.proofs.fills.is_fill.Tie as tie
 
 returns : tie.Need-returns
@@ -18,7 +17,7 @@ returns c =
     let back3 = passed-on (fill .measure) (measure .before .struct-told3 .given .1 .1 .1 .0 .1) in
     cc
 
-pub is-fill-spec : {M : Type 1} → statement M
+pub is-fill-spec : {M : Type 1} → Rattle.draw.proofs.fills.is_fill.Statement.statement M
 is-fill-spec =
     tie.close
     (tie.spec (search needs) (search needs) (search needs) (search needs) (search needs) (search needs) (search needs) (search needs) (search needs)

@@ -2,7 +2,6 @@
 use mathlib.Core.Path.{_∙_}
 use borrow.Author.Needs.{needs}
 use Rattle.draw.proofs.Fields.{rule-first, rule-later}
-use Rattle.draw.proofs.fills.keeps_pass_rule.Statement.{statement}
 use Rattle.draw.proofs.fills.keeps_pass_rule.Tie as tie
 
 returns : tie.Need-returns
@@ -14,9 +13,5 @@ returns-2 c =
     let a = first .before .before .before .args in
     c .is-next .ensures ∙ rule-later (a .s .now) (a .i) (first .if1 .left) (c .before .decode2 .ensures) (first .before .decode .ensures)
 
-pub keeps-pass-rule-spec : {M : Type 1} → statement M
-keeps-pass-rule-spec =
-    tie.close
-    (tie.spec (search needs)
-    returns (search needs)
-    (search needs) (search needs) returns-2)
+pub keeps-pass-rule-spec : {M : Type 1} → Rattle.draw.proofs.fills.keeps_pass_rule.Statement.statement M
+keeps-pass-rule-spec = tie.close (tie.spec (search needs) returns (search needs) (search needs) (search needs) returns-2)

@@ -8,7 +8,6 @@ use Rattle.factors.specs.declared.Metal.the-variants.{Certified}
 use Rattle.draw.specs.Drawn.{adjusted, measureCts, proverCts, figuresOf}
 use Rattle.draw.proofs.Fields.{fields}
 use Rattle.draw.proofs.Magnitudes.{cts-at, expanded-most, ccts-value, drawn-value}
-use Rattle.draw.proofs.fills.work_out.Statement.{statement}
 use Rattle.draw.proofs.fills.work_out.Tie as tie
 
 expanded-fits : (c : tie.Start) {x : ℕ} → x ≡ adjusted (c .args .fill) → x * c .args .fill .ctdw ≤ 102010200000000
@@ -32,7 +31,7 @@ returns c =
     let all = c .round-or-zero2 .ensures ∙ drawn-value (s .args .metal) fill (s .pre .0) (s .pre .1) (volume .adjust .ensures) factor in
     λ i. record { adjusted = volume .adjust .ensures i; measure = measure i; prover = prover i; ccts = factor i; drawn = all i }
 
-pub work-out-spec : {M : Type 1} → statement M
+pub work-out-spec : {M : Type 1} → Rattle.draw.proofs.fills.work_out.Statement.statement M
 work-out-spec =
     tie.close
     (tie.spec (λ c κs. search needs) (λ c κs. search needs) (λ c κs. search needs) (λ c. search needs) (λ c κs. search needs) (λ c κs. search needs)

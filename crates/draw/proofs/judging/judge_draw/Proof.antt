@@ -8,7 +8,6 @@ use Rattle.ranges.specs.Table.{fillsOk}
 use Rattle.octets.specs.Records.{recordsIn, areRecords}
 use Rattle.draw.specs.Answers.{drawFault}
 use Rattle.draw.proofs.Sound.{count-within}
-use Rattle.draw.proofs.judging.judge_draw.Statement.{statement}
 use Rattle.draw.proofs.judging.judge_draw.Tie as tie
 
 whole : (c : tie.Then1) → areRecords fillsOk 32 (length (c .before .before .before .args .s .now)) ≡ true
@@ -28,7 +27,7 @@ count-passes-requires c κs =
     let count = count-within (w .before .before .before .args .s .now) (whole w) in
     (omega (arith, count .0), count .1)
 
-pub judge-draw-spec : {M : Type 1} → statement M
+pub judge-draw-spec : {M : Type 1} → Rattle.draw.proofs.judging.judge_draw.Statement.statement M
 unfolding recordsIn drawFault
 judge-draw-spec =
     tie.close

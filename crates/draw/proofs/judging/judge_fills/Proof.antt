@@ -7,7 +7,6 @@ use Rattle.octets.proofs.FirstToLast.{faults, start, next, done, scan-hit}
 use Rattle.octets.specs.FirstToLast.{scan}
 use Rattle.refusals.specs.Verdict.{faultOf}
 use Rattle.draw.specs.Answers.{fillFault}
-use Rattle.draw.proofs.judging.judge_fills.Statement.{statement}
 use Rattle.draw.proofs.judging.judge_fills.Tie as tie
 
 abbrev Inv-loop : tie.InvT-loop
@@ -34,9 +33,8 @@ loop-again c =
     let a = l .before .before .args in
     next faults (fillFault (a .s .now)) (a .fills) (l .loop .i) (omega arith) (sym (j .judge-fill .ensures) ∙ ap faultOf (c .enum-told .given .1)) (l .loop .inv)
 
-pub judge-fills-spec : {M : Type 1} → statement M
+pub judge-fills-spec : {M : Type 1} → Rattle.draw.proofs.judging.judge_fills.Statement.statement M
 judge-fills-spec =
     tie.close
-    (tie.spec Inv-loop μ-loop loop-holds (search needs) (search needs) returns
-    (λ c. search needs) (search needs) (λ c. omega arith) loop-again
+    (tie.spec Inv-loop μ-loop loop-holds (search needs) (search needs) returns (λ c. search needs) (search needs) (λ c. omega arith) loop-again
     (λ c. let l = c .before in let a = l .before .before .args in sym (done faults (fillFault (a .s .now)) (a .fills) (l .loop .i) (omega arith) (l .loop .inv))))

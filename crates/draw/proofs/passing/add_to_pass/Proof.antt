@@ -7,7 +7,6 @@ use Rattle.draw.specs.Drawn.{figuresOf}
 use Rattle.draw.specs.declared.FillFigures.{FillFigures}
 use Rattle.draw.proofs.Magnitudes.{drawn-most}
 use Rattle.draw.proofs.Volumes.{adds, adds-nothing}
-use Rattle.draw.proofs.passing.add_to_pass.Statement.{statement}
 use Rattle.draw.proofs.passing.add_to_pass.Tie as tie
 
 returns : tie.Need-returns
@@ -19,7 +18,7 @@ returns c =
     let drew = ap (λ (f : FillFigures). f .drawn) (c .work-out .ensures) in
     (adds (a .s .now) (a .i) (r .decode .ensures) (a .metal) (c .before .if1 .taken) drew, omega (arith, drew, drawn-most (a .metal) (r .decode .result) (s .pre .1) (ap fillOk (r .decode .ensures) ∙ s .pre .2)))
 
-pub add-to-pass-spec : {M : Type 1} → statement M
+pub add-to-pass-spec : {M : Type 1} → Rattle.draw.proofs.passing.add_to_pass.Statement.statement M
 add-to-pass-spec =
     tie.close
     (tie.spec (search needs)

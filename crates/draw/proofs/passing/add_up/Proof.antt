@@ -10,7 +10,6 @@ use Rattle.exact.specs.Words.{sumOf}
 use Rattle.group.specs.Listed.{listed}
 use Rattle.draw.specs.Passes.{passSum, drawnFor}
 use Rattle.draw.proofs.Volumes.{sum-next}
-use Rattle.draw.proofs.passing.add_up.Statement.{statement}
 use Rattle.draw.proofs.passing.add_up.Tie as tie
 
 abbrev Inv-loop : tie.InvT-loop
@@ -37,7 +36,7 @@ returns c =
     let none-left : length (a .s .now) / 32 - l .loop .i ≡ 0 = omega arith in
     (omega (arith, l .loop .inv .0, ap (λ (n : ℕ). sumOf (listed (drawnFor (a .metal) (a .s .now) (a .pass)) n (l .loop .i))) none-left), omega (arith, l .loop .inv, s .pre .1))
 
-pub add-up-spec : {M : Type 1} → statement M
+pub add-up-spec : {M : Type 1} → Rattle.draw.proofs.passing.add_up.Statement.statement M
 unfolding recordsIn
 add-up-spec =
     tie.close

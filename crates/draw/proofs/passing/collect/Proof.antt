@@ -7,7 +7,6 @@ use Rattle.octets.specs.Records.{zerosAfter}
 use Rattle.group.specs.Listed.{listed}
 use Rattle.draw.specs.Passes.{passVolume}
 use Rattle.draw.proofs.Volumes.{volumes-next}
-use Rattle.draw.proofs.passing.collect.Statement.{statement}
 use Rattle.draw.proofs.passing.collect.Tie as tie
 
 abbrev Inv-loop : tie.InvT-loop
@@ -27,7 +26,7 @@ returns c =
     let all : c .before .loop .i ≡ c .before .before .before .args .count = omega (arith, c .before .loop .inv) in
     cc
 
-pub collect-spec : {M : Type 1} → statement M
+pub collect-spec : {M : Type 1} → Rattle.draw.proofs.passing.collect.Statement.statement M
 unfolding listed zerosAfter
 collect-spec =
     tie.close

@@ -7,7 +7,6 @@ use Rattle.factors.specs.declared.Places.the-variants.{Six}
 use Rattle.factors.proofs.Values.{cps-value, cpl-value}
 use Rattle.draw.specs.Passes.{waterAt}
 use Rattle.draw.proofs.Magnitudes.{water-ok, product-fits, corrected-value}
-use Rattle.draw.proofs.passing.correct.Statement.{statement}
 use Rattle.draw.proofs.passing.correct.Tie as tie
 
 abbrev start : tie.After-value-or-zero2 → tie.Start
@@ -30,7 +29,7 @@ returns c =
     let s = start w in
     c .round-or-zero .ensures ∙ corrected-value (s .args .pipe) (s .args .pressure) (s .pre .0) (s .pre .1) (s .args .sum) (s .pre .2) (cps-is (w .before .before)) (cpl-is w)
 
-pub correct-spec : {M : Type 1} → statement M
+pub correct-spec : {M : Type 1} → Rattle.draw.proofs.passing.correct.Statement.statement M
 correct-spec =
     tie.close
     (tie.spec (search needs) (search needs) (search needs) (search needs) (search needs) (search needs)

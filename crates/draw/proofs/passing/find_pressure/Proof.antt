@@ -12,7 +12,6 @@ use Rattle.octets.specs.Records.{recordsIn}
 use Rattle.draw.specs.Passes.{passPressure, pressureAt, isOf}
 use Rattle.draw.proofs.Fields.{fields}
 use Rattle.draw.proofs.Volumes.{of-pass, not-of-pass}
-use Rattle.draw.proofs.passing.find_pressure.Statement.{statement}
 use Rattle.draw.proofs.passing.find_pressure.Tie as tie
 
 abbrev Inv-loop : tie.InvT-loop
@@ -47,7 +46,7 @@ returns-2 c =
     let a = l .before .before .args in
     (sym (ap (pressureAt (a .s .now)) (done places (placeIf (isOf (a .s .now) (a .pass))) (length (a .s .now) / 32) (l .loop .i) (omega arith) (l .loop .inv))), refl)
 
-pub find-pressure-spec : {M : Type 1} → statement M
+pub find-pressure-spec : {M : Type 1} → Rattle.draw.proofs.passing.find_pressure.Statement.statement M
 unfolding recordsIn
 find-pressure-spec =
     tie.close

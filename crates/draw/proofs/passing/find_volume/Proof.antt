@@ -1,7 +1,6 @@
 -- `draw::passing::find_volume` meets its contract.
 use Rattle.draw.specs.Passes.{passVolume}
 use Rattle.draw.proofs.Sound.{Sound, sound}
-use Rattle.draw.proofs.passing.find_volume.Statement.{statement}
 use Rattle.draw.proofs.passing.find_volume.Tie as tie
 
 good : (c : tie.Start) → Sound (c .args .prover) (c .args .s .now)
@@ -11,7 +10,7 @@ returns : tie.Need-returns
 unfolding passVolume
 returns c = cc
 
-pub find-volume-spec : {M : Type 1} → statement M
+pub find-volume-spec : {M : Type 1} → Rattle.draw.proofs.passing.find_volume.Statement.statement M
 find-volume-spec =
     tie.close
     (tie.spec (λ c κs. let w = good (c .before .before) in (w .few-fills, w .fill))

@@ -3,7 +3,6 @@ use Prim.Native.Nat.{_-_, _≤_}
 use borrow.Author.Needs.{needs}
 use lib.ListN.{length}
 use mathlib.Core.Path.{_≡_}
-use Rattle.endakuro.proofs.calls.say_volumes.Statement.{statement}
 use Rattle.endakuro.proofs.calls.say_volumes.Tie as tie
 
 abbrev Inv-loop : tie.InvT-loop
@@ -12,5 +11,8 @@ Inv-loop count out₀ volumes shown at₀ i₀ out at i = (i ≤ 20) × (length 
 abbrev μ-loop : tie.MeasureT-loop
 μ-loop count out₀ volumes shown at₀ i₀ out at i = 20 - i
 
-pub say-volumes-spec : {M : Type 1} → statement M
-say-volumes-spec = tie.close (tie.spec Inv-loop μ-loop (search needs) (search needs) (search needs) (search needs) (search needs) (search needs) (search needs) (search needs) (search needs) (search needs) (search needs))
+pub say-volumes-spec : {M : Type 1} → Rattle.endakuro.proofs.calls.say_volumes.Statement.statement M
+say-volumes-spec =
+    tie.close
+    (tie.spec Inv-loop μ-loop (search needs) (search needs) (search needs) (search needs) (search needs) (search needs) (search needs) (search needs)
+    (search needs) (search needs) (search needs))

@@ -1,7 +1,6 @@
 -- `endakuro::entries::find_name` is safe and ends.
 use Prim.Native.Nat.{_-_, _≤_}
 use borrow.Author.Needs.{needs}
-use Rattle.endakuro.proofs.entries.find_name.Statement.{statement}
 use Rattle.endakuro.proofs.entries.find_name.Tie as tie
 
 abbrev Inv-loop : tie.InvT-loop
@@ -10,5 +9,7 @@ Inv-loop name names i₀ i = i ≤ 19
 abbrev μ-loop : tie.MeasureT-loop
 μ-loop name names i₀ i = 19 - i
 
-pub find-name-spec : {M : Type 1} → statement M
-find-name-spec = tie.close (tie.spec Inv-loop μ-loop (search needs) (search needs) (search needs) (search needs) (search needs) (search needs) (search needs) (search needs))
+pub find-name-spec : {M : Type 1} → Rattle.endakuro.proofs.entries.find_name.Statement.statement M
+find-name-spec =
+    tie.close
+    (tie.spec Inv-loop μ-loop (search needs) (search needs) (search needs) (search needs) (search needs) (search needs) (search needs) (search needs))

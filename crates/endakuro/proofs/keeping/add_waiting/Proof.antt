@@ -3,7 +3,6 @@ use Prim.Native.Nat.{_-_, _≤_}
 use borrow.Author.Needs.{needs}
 use lib.ListN.{length}
 use mathlib.Core.Path.{_≡_}
-use Rattle.endakuro.proofs.keeping.add_waiting.Statement.{statement}
 use Rattle.endakuro.proofs.keeping.add_waiting.Tie as tie
 
 abbrev Inv-loop : tie.InvT-loop
@@ -12,5 +11,8 @@ Inv-loop out₀ from numbers count at₀ i₀ out at i = (i ≤ 16) × (length o
 abbrev μ-loop : tie.MeasureT-loop
 μ-loop out₀ from numbers count at₀ i₀ out at i = 16 - i
 
-pub add-waiting-spec : {M : Type 1} → statement M
-add-waiting-spec = tie.close (tie.spec Inv-loop μ-loop (search needs) (search needs) (search needs) (search needs) (search needs) (search needs) (search needs) (search needs) (search needs) (search needs) (search needs) (search needs))
+pub add-waiting-spec : {M : Type 1} → Rattle.endakuro.proofs.keeping.add_waiting.Statement.statement M
+add-waiting-spec =
+    tie.close
+    (tie.spec Inv-loop μ-loop (search needs) (search needs) (search needs) (search needs) (search needs) (search needs) (search needs) (search needs)
+    (search needs) (search needs) (search needs) (search needs))

@@ -3,7 +3,6 @@ use Prim.Native.Nat.{_-_, _≤_}
 use borrow.Author.Needs.{needs}
 use lib.ListN.{length}
 use mathlib.Core.Path.{_≡_}
-use Rattle.endakuro.proofs.keeping.line_at.Statement.{statement}
 use Rattle.endakuro.proofs.keeping.line_at.Tie as tie
 
 abbrev Inv-loop : tie.InvT-loop
@@ -12,8 +11,8 @@ Inv-loop line shipper numbers₀ from i₀ numbers i = (i ≤ 16) × (length num
 abbrev μ-loop : tie.MeasureT-loop
 μ-loop line shipper numbers₀ from i₀ numbers i = 16 - i
 
-pub line-at-spec : {M : Type 1} → statement M
+pub line-at-spec : {M : Type 1} → Rattle.endakuro.proofs.keeping.line_at.Statement.statement M
 line-at-spec =
     tie.close
-    (tie.spec Inv-loop μ-loop (search needs) (search needs) (search needs) (search needs) (search needs) (search needs) (search needs) (search needs) (search needs)
-    (λ c. search needs) (search needs) (search needs) (search needs) (search needs))
+    (tie.spec Inv-loop μ-loop (search needs) (search needs) (search needs) (search needs) (search needs) (search needs) (search needs) (search needs)
+    (search needs) (λ c. search needs) (search needs) (search needs) (search needs) (search needs))

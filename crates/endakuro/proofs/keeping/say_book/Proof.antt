@@ -3,7 +3,6 @@ use Prim.Native.Nat.{_-_, _≤_}
 use borrow.Author.Needs.{needs}
 use lib.ListN.{length}
 use mathlib.Core.Path.{_≡_}
-use Rattle.endakuro.proofs.keeping.say_book.Statement.{statement}
 use Rattle.endakuro.proofs.keeping.say_book.Tie as tie
 
 abbrev Inv-loop : tie.InvT-loop
@@ -12,8 +11,8 @@ Inv-loop out₀ kept at₀ shipper₀ out at shipper = (shipper ≤ 4) × (lengt
 abbrev μ-loop : tie.MeasureT-loop
 μ-loop out₀ kept at₀ shipper₀ out at shipper = 4 - shipper
 
-pub say-book-spec : {M : Type 1} → statement M
+pub say-book-spec : {M : Type 1} → Rattle.endakuro.proofs.keeping.say_book.Statement.statement M
 say-book-spec =
     tie.close
-    (tie.spec Inv-loop μ-loop (search needs) (search needs) (search needs) (search needs) (search needs) (search needs) (search needs) (search needs) (search needs)
-    (search needs) (search needs) (search needs) (search needs) (search needs) (search needs) (search needs))
+    (tie.spec Inv-loop μ-loop (search needs) (search needs) (search needs) (search needs) (search needs) (search needs) (search needs) (search needs)
+    (search needs) (search needs) (search needs) (search needs) (search needs) (search needs) (search needs) (search needs))

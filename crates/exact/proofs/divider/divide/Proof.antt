@@ -3,7 +3,6 @@
 use Prim.Native.Nat.{_+_, _*_, _-_, _^_}
 use native.Mathlib.Omega.{arith}
 use Rattle.exact.proofs.Bits.{Going, start, quotient-room, turn, finish}
-use Rattle.exact.proofs.divider.divide.Statement.{statement}
 use Rattle.exact.proofs.divider.divide.Tie as tie
 
 abbrev Inv-loop : tie.InvT-loop
@@ -32,7 +31,7 @@ loop-again c =
 returns : tie.Need-returns Inv-loop μ-loop
 returns c = (finish (c .before .loop .inv) (c .loop-test .left), c .before .loop .inv .small)
 
-pub divide-spec : {M : Type 1} → statement M
+pub divide-spec : {M : Type 1} → Rattle.exact.proofs.divider.divide.Statement.statement M
 divide-spec =
     tie.close
     (tie.spec Inv-loop μ-loop loop-holds take-bit-requires mul-quotient add-quotient (λ c. omega arith) (λ c. omega arith) (λ c. omega arith)

@@ -6,7 +6,6 @@ use borrow.Author.Needs.{needs}
 use lib.ListN.{length, drop}
 use Rattle.lines.specs.Answers.{placeAll, writtenAll, numbersSpelt}
 use Rattle.lines.proofs.Pieces.{place-step, left-step, place-end, left-end}
-use Rattle.lines.proofs.answers.add_numbers.Statement.{statement}
 use Rattle.lines.proofs.answers.add_numbers.Tie as tie
 
 abbrev Inv-loop : tie.InvT-loop
@@ -46,7 +45,7 @@ returns c =
       sym (left-end (l .out) (l .at) ns (l .i) (omega arith)) ∙ l .inv .1 .1 .1,
     )
 
-pub add-numbers-spec : {M : Type 1} → statement M
+pub add-numbers-spec : {M : Type 1} → Rattle.lines.proofs.answers.add_numbers.Statement.statement M
 add-numbers-spec =
     tie.close
     (tie.spec Inv-loop μ-loop loop-holds (search needs) (search needs) (search needs) (search needs) (search needs) loop-again (search needs) returns)

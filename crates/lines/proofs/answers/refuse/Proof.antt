@@ -2,7 +2,6 @@
 use mathlib.Core.Path.{_∙_}
 use borrow.Author.Needs.{needs}
 use Rattle.lines.proofs.Pieces.{refused-place, refused-left}
-use Rattle.lines.proofs.answers.refuse.Statement.{statement}
 use Rattle.lines.proofs.answers.refuse.Tie as tie
 
 returns : tie.Need-returns
@@ -15,7 +14,7 @@ returns c =
       n .ensures .1 ∙ refused-left (a .out .now) (a .refusal) (g .result) _ _ (g .ensures) (t .ensures .0) (t .ensures .1),
     )
 
-pub refuse-spec : {M : Type 1} → statement M
+pub refuse-spec : {M : Type 1} → Rattle.lines.proofs.answers.refuse.Statement.statement M
 refuse-spec =
     tie.close
     (tie.spec (search needs) (search needs) (search needs) (search needs) (search needs) (search needs) (search needs) (search needs) returns)

@@ -8,7 +8,6 @@ use lib.ListN.{length, getD, drop}
 use Rattle.words.specs.Words.{wordOf}
 use Rattle.lines.specs.Operands.{isKind, areKinds}
 use Rattle.lines.proofs.Forms.{not-true, not-false, kinds-stop, kinds-step, kinds-end}
-use Rattle.lines.proofs.operands.are_kinds.Statement.{statement}
 use Rattle.lines.proofs.operands.are_kinds.Tie as tie
 
 abbrev Inv-loop : tie.InvT-loop
@@ -44,7 +43,7 @@ returns-2 c =
     let a = c .before .before .before .before .args in
     sym (l .inv .1 ∙ kinds-end (a .line .now) (a .kinds .now) (l .i) (omega arith))
 
-pub are-kinds-spec : {M : Type 1} → statement M
+pub are-kinds-spec : {M : Type 1} → Rattle.lines.proofs.operands.are_kinds.Statement.statement M
 are-kinds-spec =
     tie.close
     (tie.spec Inv-loop μ-loop loop-holds (search needs) (search needs) (search needs) returns (search needs) (search needs) loop-again returns-2)

@@ -4,7 +4,6 @@ use Prim.Native.Nat.{ℕ}
 use borrow.Author.Needs.{needs}
 use borrow.Author.Tests.{ne-eqb}
 use Rattle.lines.specs.Operands.{isNumber, isSigned, isKind}
-use Rattle.lines.proofs.operands.is_kind.Statement.{statement}
 use Rattle.lines.proofs.operands.is_kind.Tie as tie
 
 returns : tie.Need-returns
@@ -70,8 +69,8 @@ returns-9 c =
       ne-eqb _ _ (last .1),
     ))
 
-pub is-kind-spec : {M : Type 1} → statement M
+pub is-kind-spec : {M : Type 1} → Rattle.lines.proofs.operands.is_kind.Statement.statement M
 is-kind-spec =
     tie.close
-    (tie.spec (search needs) (search needs) (search needs) (search needs) (search needs) (search needs) (search needs) (search needs) (search needs) (search needs) (search needs)
-    returns returns-2 returns-3 returns-4 returns-5 returns-6 returns-7 returns-8 returns-9)
+    (tie.spec (search needs) (search needs) (search needs) (search needs) (search needs) (search needs) (search needs) (search needs) (search needs)
+    (search needs) (search needs) returns returns-2 returns-3 returns-4 returns-5 returns-6 returns-7 returns-8 returns-9)

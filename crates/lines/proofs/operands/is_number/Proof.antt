@@ -1,7 +1,6 @@
 -- `lines::operands::is_number` meets its contract.
 use borrow.Author.Needs.{needs}
 use Rattle.numerals.specs.Numbers.{told}
-use Rattle.lines.proofs.operands.is_number.Statement.{statement}
 use Rattle.lines.proofs.operands.is_number.Tie as tie
 
 returns : tie.Need-returns
@@ -12,5 +11,5 @@ returns-2 : tie.Need-returns-2
 unfolding told
 returns-2 c = search needs
 
-pub is-number-spec : {M : Type 1} → statement M
+pub is-number-spec : {M : Type 1} → Rattle.lines.proofs.operands.is_number.Statement.statement M
 is-number-spec = tie.close (tie.spec (search needs) (search needs) returns returns-2)

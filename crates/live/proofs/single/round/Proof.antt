@@ -18,7 +18,6 @@ use Rattle.live.proofs.Fields.{fieldOf, finite-by-field}
 use Rattle.live.proofs.Laws.{finite-no-nan, whole-far}
 use Rattle.live.proofs.Value.{whole-of-none}
 use Rattle.live.proofs.Words.{machine-above, word-holds, word-passed}
-use Rattle.live.proofs.single.round.Statement.{statement}
 use Rattle.live.proofs.single.round.Tie as tie
 
 -- the single is the one that its bits stand for
@@ -55,7 +54,7 @@ returns-3 c =
     machine-above (s .args .offset) (omega arith)
     ∙ sym (ap inWord (whole-of-none (s .args .offset) (s .args .times) (s .args .x) (sym (c .before .is-finite .ensures) ∙ c .if1 .left)) ∙ word-holds (pos (s .args .offset)) o)
 
-pub round-spec : {M : Type 1} → statement M
+pub round-spec : {M : Type 1} → Rattle.live.proofs.single.round.Statement.statement M
 round-spec =
     tie.close
     (tie.spec (search needs) (λ c. finite-no-nan (c .before .before .args .x) (is-number c)) (λ c κs. search needs) (λ c κs. search needs) returns

@@ -6,7 +6,6 @@ use native.Mathlib.Omega.{arith}
 use borrow.Author.Needs.{needs}
 use Rattle.exact.specs.Rounding.{roundedDiv}
 use Rattle.exact.proofs.Rounding.{keeps, goes-up}
-use Rattle.live.proofs.single.round_half_up.Statement.{statement}
 use Rattle.live.proofs.single.round_half_up.Tie as tie
 
 rest-small : (s : tie.Start) → s .args .top % s .args .bottom < s .args .bottom
@@ -21,7 +20,7 @@ add-result c =
 parted : (s : tie.Start) {q : ℕ} → roundedDiv (s .args .top / s .args .bottom * s .args .bottom + s .args .top % s .args .bottom) (s .args .bottom) ≡ q → q ≡ roundedDiv (s .args .top) (s .args .bottom)
 parted s is = sym is ∙ ap (λ (n : ℕ). roundedDiv n (s .args .bottom)) (div-add-mod' (s .args .top) (s .args .bottom))
 
-pub round-half-up-spec : {M : Type 1} → statement M
+pub round-half-up-spec : {M : Type 1} → Rattle.live.proofs.single.round_half_up.Statement.statement M
 round-half-up-spec =
     tie.close
     (tie.spec (search needs) (search needs) (λ c. omega (arith, rest-small c)) (λ c. omega (arith, rest-small c)) add-result

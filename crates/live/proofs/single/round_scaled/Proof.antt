@@ -5,7 +5,6 @@ use native.Mathlib.Omega.{arith}
 use lib.Pow.{pow-pos, pow-mono}
 use borrow.Author.Needs.{needs}
 use Rattle.live.proofs.Laws.{whole-near, whole-by-parts, product-small}
-use Rattle.live.proofs.single.round_scaled.Statement.{statement}
 use Rattle.live.proofs.single.round_scaled.Tie as tie
 
 returns : tie.Need-returns
@@ -41,7 +40,7 @@ returns-2 c =
     (sum .ensures)
     (c .round-half-up .ensures)
 
-pub round-scaled-spec : {M : Type 1} → statement M
+pub round-scaled-spec : {M : Type 1} → Rattle.live.proofs.single.round_scaled.Statement.statement M
 round-scaled-spec =
     tie.close
     (tie.spec returns (search needs) (search needs) (search needs) (λ c. omega (arith, offset-product c)) (search needs)

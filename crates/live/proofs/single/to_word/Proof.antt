@@ -11,7 +11,6 @@ use borrow.Author.Needs.{needs}
 use Rattle.live.specs.Exact.{sided}
 use Rattle.live.specs.Word.{inWord}
 use Rattle.live.proofs.Words.{machine-above, machine-below, sided-fits, sided-held, sided-passed}
-use Rattle.live.proofs.single.to_word.Statement.{statement}
 use Rattle.live.proofs.single.to_word.Tie as tie
 
 sub-result : tie.Need-sub-result
@@ -35,7 +34,7 @@ returns-3 c =
     let h = c .before .if1 .left in
     machine-above (c .before .before .args .whole .size) (omega arith) ∙ found (c .before .before) (c .if2 .left) h
 
-pub to-word-spec : {M : Type 1} → statement M
+pub to-word-spec : {M : Type 1} → Rattle.live.proofs.single.to_word.Statement.statement M
 to-word-spec =
     tie.close
     (tie.spec (λ c. sym (sided-passed (c .before .args .whole .below) _ (c .if1 .taken))) (search needs) sub-result returns-2 returns-3)
