@@ -1,16 +1,17 @@
 -- The laws of hex: a digit, pairs of digits by their place, and bytes that are spelt and read back.
 use mathlib.Core.Path.{_≡_, refl, sym, ap, _∙_}
-use mathlib.Core.Bool.{true, false}
+use mathlib.Core.Bool.{Bool, true, false, _&&_}
 use mathlib.Core.List.{List, [], _∷_, _++_}
 use Prim.Native.Nat.{ℕ, zero, suc, _+_, _*_, _-_, _/_, _≤_, _<_}
 use native.Mathlib.Numerals.{add-one}
 use native.Mathlib.Omega.{arith}
-use borrow.Author.Tests.{lt-leb, le-leb}
+use borrow.Author.Tests.{lt-leb, le-leb, eqb-true}
+use lib.Dec.{eqb}
 use lib.ListN.{length, getD, take, drop, set, drop-of-length-le}
 use lib.Seq.{drop-cons, paste, paste-suc, length-paste, take-length}
-use Rattle.hex.specs.Hex.{hexOf, areHex, areBytes, bytesOf, pairOf, pairs}
-use Rattle.octets.specs.Octets.{writtenAt}
-use Rattle.octets.proofs.Laws.{written-fits}
+use Rattle.hex.specs.Hex.{hexOf, areHex, areBytes, bytesOf, pairOf, pairs, isSingle, mostFirst}
+use Rattle.octets.specs.Octets.{numberAt, longAt, writtenAt}
+use Rattle.octets.proofs.Laws.{written-fits, written-whole}
 use Rattle.words.specs.Written.{placeAfter}
 use Rattle.words.proofs.Written.{place-fits}
 
@@ -91,3 +92,36 @@ all-pairs to w now-is i room h is =
 
 pub as-long : (to w now-is : List ℕ) (i : ℕ) → length (pairs w) ≤ length to → i ≤ length (pairs w) → now-is ≡ paste to 0 (pairs w) i → length now-is ≡ length to
 as-long to w now-is i room h is = ap length is ∙ length-paste to 0 (pairs w) i (omega arith) h
+
+-- four bytes, most significant first, read turned round
+turned : (s : List ℕ) → length s ≡ 4 → longAt (getD s 3 0 ∷ getD s 2 0 ∷ getD s 1 0 ∷ getD s 0 0 ∷ []) 0 ≡ mostFirst 0 s
+unfolding longAt numberAt mostFirst
+turned [] is = absurd (omega arith)
+turned (a ∷ []) is = absurd (omega arith)
+turned (a ∷ b ∷ []) is = absurd (omega arith)
+turned (a ∷ b ∷ c ∷ []) is = absurd (omega arith)
+turned (a ∷ b ∷ c ∷ d ∷ []) is = omega arith
+turned (a ∷ b ∷ c ∷ d ∷ e ∷ s) is = absurd (omega arith)
+
+both : (a b : Bool) → (a && b) ≡ true → (a ≡ true) × (b ≡ true)
+both true b is = (refl, is)
+both false b is = (is, cc)
+
+-- a single has eight digits, which are four bytes
+module _ (w : List ℕ) (is : isSingle w ≡ true) where
+  eight : length w ≡ 8
+  unfolding isSingle
+  eight = eqb-true (length w) 8 (both (eqb (length w) 8) (areBytes w) is .0)
+
+  spelt : areBytes w ≡ true
+  unfolding isSingle
+  spelt = both (eqb (length w) 8) (areBytes w) is .1
+
+  four : length (pairs w) ≡ 4
+  four = pairs-length w ∙ ap (λ (n : ℕ). n / 2) eight
+
+  pub single-bytes : writtenAt (0 ∷ 0 ∷ 0 ∷ 0 ∷ []) 0 (bytesOf w) ≡ pairs w
+  single-bytes = ap (writtenAt (0 ∷ 0 ∷ 0 ∷ 0 ∷ []) 0) (bytes-some w spelt) ∙ written-whole (0 ∷ 0 ∷ 0 ∷ 0 ∷ []) (pairs w) four
+
+  pub most-first : longAt (getD (pairs w) 3 0 ∷ getD (pairs w) 2 0 ∷ getD (pairs w) 1 0 ∷ getD (pairs w) 0 0 ∷ []) 0 ≡ mostFirst 0 (pairs w)
+  most-first = turned (pairs w) four

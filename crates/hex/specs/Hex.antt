@@ -4,7 +4,6 @@ use mathlib.Core.List.{List, [], _∷_}
 use Prim.Native.Nat.{ℕ, _+_, _*_, _-_, _/_, _%_}
 use lib.Dec.{leb, ltb, eqb}
 use lib.ListN.{length, getD}
-use Rattle.octets.specs.Octets.{longAt, writtenAt}
 
 -- `0` to `9`, then `a` to `f`; 16 for any other byte
 unfoldable pub hexOf : ℕ → ℕ
@@ -38,13 +37,14 @@ bytesOf w = cond (areBytes w) (pairs w) []
 unfoldable pub isSingle : List ℕ → Bool
 isSingle w = eqb (length w) 8 && areBytes w
 
--- the four bytes of eight digits; zeros where the word is malformed or has fewer
-unfoldable pub fourOf : List ℕ → List ℕ
-fourOf w = writtenAt (0 ∷ 0 ∷ 0 ∷ 0 ∷ []) 0 (bytesOf w)
+-- a number by its bytes, most significant first, behind a number that stands before them
+unfoldable pub mostFirst : ℕ → List ℕ → ℕ
+mostFirst n [] = n
+mostFirst n (b ∷ s) = mostFirst (256 * n + b) s
 
+-- the 32 bits; 0 where the word is no single
 unfoldable pub singleOf : List ℕ → ℕ
-singleOf w =
-    longAt (getD (fourOf w) 3 0 ∷ getD (fourOf w) 2 0 ∷ getD (fourOf w) 1 0 ∷ getD (fourOf w) 0 0 ∷ []) 0
+singleOf w = cond (isSingle w) (mostFirst 0 (pairs w)) 0
 
 -- a digit below 16 as its byte
 unfoldable pub glyph : ℕ → ℕ

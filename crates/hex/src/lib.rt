@@ -103,6 +103,9 @@ pub fn is_single(word: &[u8]) -> bool
 pub fn read_single(word: &[u8]) -> u32
     ensures { λ r. ⌜ r ≡ singleOf (now (word .entry)) ⌝ }
 {
+    if !is_single(word) {
+        return 0;
+    }
     let mut bytes = [0u8; 4];
     let _count = read_bytes(word, &mut bytes);
     let little = [bytes[3], bytes[2], bytes[1], bytes[0]];

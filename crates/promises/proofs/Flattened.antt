@@ -45,6 +45,7 @@ use Rattle.book.specs.declared.Handout.the-variants as handout
 use Rattle.book.proofs.Outcomes.{change-one, handout-one}
 use Rattle.proving.specs.Job.{foundOf, acceptedBy, acceptedOf}
 use Rattle.api.specs.Flat.{numberIn, recordIn, valuesIn, noReport, noFigures, noFill, noBase, noVolumes, noReading, noHandout, flatFactor, flatReport, flatRun, flatFill, flatPasses, flatDraw, flatVolumes, flatLive, flatDone, flatTaken, partOf}
+use Rattle.api.specs.declared.jobs.EndakuroRun.{EndakuroRun}
 use Rattle.api.specs.declared.water.EndakuroPasses.{EndakuroPasses}
 
 -- what is told is done, or refused with a number that is not 0
@@ -117,13 +118,25 @@ pub run-numbered : (a : Worked) → Numbered (toldRun a)
 run-numbered (worked.Figures figures) = tt
 run-numbered (worked.Refused why) = not-zero why
 
+-- a run's figures, read back from the struct
+figuresIn : EndakuroRun → Figures
+figuresIn f =
+    record {
+      indicated = f .indicated;
+      cts = f .cts;
+      cps = f .cps;
+      prover = record { cpl = f .provercpl; factor = f .proverfactor; volume = f .provervolume };
+      meter = record { cpl = f .metercpl; factor = f .meterproduct; volume = f .metervolume };
+      factor = f .factor;
+    }
+
 run-back : ReadBack noFigures flatRun
-unfolding flatRun
+unfolding flatRun figuresIn
 run-back =
     record {
       number = λ f. f .number;
       record-at = λ f. f .at;
-      values = λ f. record { indicated = f .indicated; cts = f .cts; cps = f .cps; prover = record { cpl = f .provercpl; factor = f .proverfactor; volume = f .provervolume }; meter = record { cpl = f .metercpl; factor = f .meterproduct; volume = f .metervolume }; factor = f .factor };
+      values = figuresIn;
       number-is = λ t. refl;
       record-is = λ t. refl;
       values-are = λ t. refl;

@@ -1,22 +1,20 @@
--- Demand 2: 'Correction factors, base prover volume, meter factor and net ticket volume are the formulas of API MPMS 12.2 on the rounded
--- inputs that document 01 lists, each rounded once, halves upward.' For each figure: the exact fraction it comes from, whose numbers are
--- the rounded figures before it, and that it is that fraction rounded once.
+-- Demand 2's formulas: each figure is its exact fraction rounded once, since no divisor is zero within the ranges.
 use mathlib.Core.Path.{_≡_, refl, sym, ap, _∙_, subst}
 use mathlib.Core.Bool.{Bool, true, false, cond}
-use mathlib.Core.List.{List, [], _∷_}
+use mathlib.Core.List.{List}
 use mathlib.Core.Option.{Option, none, some}
 use Prim.Native.Nat.{ℕ, zero, suc, _+_, _-_, _*_, _^_, _<_, _≤_}
 use native.Mathlib.Nat.{div-zero, one-le-pow, mul-pos}
 use native.Mathlib.Omega.{arith}
 use lib.Dec.{leb, ltb}
-use lib.IntN.{ℤ, pos, natAbs, _+ℤ_}
+use lib.IntN.{ℤ}
 use lib.ListN.{length}
 use Rattle.refusals.specs.Told.{done, demand, demandAt, orElse, judged}
 use Rattle.refusals.proofs.Laws.{demand-was, demandAt-was, orElse-fine-first, orElse-fine-next, judged-was, judged-done, unless-done}
 use Rattle.ranges.specs.Table.{temperatureOk, pressureOk, coefficientOk, kFactorOk, volumeOk, runFactorOk}
 use Rattle.ranges.proofs.Laws.{within-low, within-high}
-use Rattle.exact.specs.Rounding.{roundedDiv, Fraction, _over_, rounded}
-use Rattle.exact.proofs.Rounding.{Nearest, nearest, nearest-one, at-least}
+use Rattle.exact.specs.Rounding.{roundedDiv, _over_, rounded}
+use Rattle.exact.proofs.Rounding.{nearest, nearest-one, at-least}
 use Rattle.octets.specs.Records.{recordsIn}
 use Rattle.octets.specs.FirstToLast.{firstPlace}
 use Rattle.octets.proofs.FirstToLast.{First, place-first}
@@ -43,10 +41,9 @@ use Rattle.run.specs.declared.Figures.{Figures}
 use Rattle.run.proofs.Laws.{RunFits, run-fits, ProverFits, prover-fits}
 use Rattle.draw.specs.Fill.{fillAt, fillOk}
 use Rattle.draw.specs.Drawn.{adjusted, measureCts, proverCts, ccts, drawn, figuresOf as fillFigures}
-use Rattle.draw.specs.Passes.{isOf, passSum, pressureAt, passPressure, waterCompressibility, waterAt, correctedVolume, passVolume}
+use Rattle.draw.specs.Passes.{isOf, pressureAt, passPressure, waterAt, correctedVolume, passVolume}
 use Rattle.draw.proofs.Magnitudes.{water-ok}
 use Rattle.draw.specs.Base.{barrelsOf}
-use Rattle.draw.specs.declared.FillFigures.{FillFigures}
 use Rattle.draw.proofs.Fields.{fields}
 use Rattle.ticket.specs.Ranges.{ticketOk}
 use Rattle.ticket.specs.Formulas.{indicated as measured, factor, gross, net}
@@ -66,15 +63,7 @@ use Rattle.factors.specs.declared.Combined.the-variants.{Value as Held, TooMany
 use Rattle.promises.specs.Proving.{Acceptable, Used}
 use Rattle.promises.specs.WaterDraw as water
 use Rattle.promises.specs.WaterDraw.{InputWithin}
-
--- 'rounded once, halves upward': q is the whole number nearest to n / d, the upper where two are as near, and no other number is
-pub record RoundedOnce (n d q : ℕ) : Type 0 where
-  pub near : Nearest n d q
-  pub only : (p : ℕ) → Nearest n d p → p ≡ q
-
--- a fraction so rounded to d places, as a whole number of 10^-d
-abbrev pub RoundedTo : ℕ → Fraction → ℕ → Type 0
-RoundedTo d (num over den) q = RoundedOnce (num * 10 ^ d) den q
+use Rattle.promises.specs.Formulas.{RoundedOnce, RoundedTo, RunRounded, FillRounded, PassRounded, TicketRounded}
 
 once : (n d : ℕ) → 0 < d → RoundedOnce n d (roundedDiv n d)
 once n d h = record { near = nearest n h; only = λ p close. nearest-one close (nearest n h) }
@@ -139,25 +128,6 @@ combined-rounded d fs is = moved (taken-is (leb (length fs) 4) (combinedAt d fs)
 
 -- ---- a run
 
--- 01, 'Proving': every figure of a run is its formula on the rounded figures before it
-pub record RunRounded (prover : Prover) (k : ℕ) (run : Run) (f : Figures) : Type 0 where
-  -- 'Indicated volume = pulses ÷ K', K in 0.001 pulse per barrel
-  pub indicated-volume : RoundedTo 4 (run .pulses * 1000 over k) (f .indicated)
-  pub steel-temperature : RoundedTo 4 (cts (run .prover .temperature) (coefficientOf (prover .metal))) (f .cts)
-  pub steel-pressure : RoundedTo 4 (cps (run .prover .liquid .pressure) (prover .pipe .diameter) (prover .pipe .modulus) (prover .pipe .wall)) (f .cps)
-  pub prover-liquid : RoundedTo 4 (cpl (run .prover .liquid .compressibility) (run .prover .liquid .pressure)) (f .prover .cpl)
-  -- 'Prover factor from CTS, CPS, CTL and CPL at the prover'
-  pub prover-factor : RoundedTo 4 (combined 4 (f .cts ∷ f .cps ∷ run .prover .ctl ∷ f .prover .cpl ∷ [])) (f .prover .factor)
-  -- 'Corrected prover volume = base volume × prover factor'
-  pub prover-volume : RoundedTo 4 (prover .base * f .prover .factor over 100000000) (f .prover .volume)
-  pub meter-liquid : RoundedTo 4 (cpl (run .meter .liquid .compressibility) (run .meter .liquid .pressure)) (f .meter .cpl)
-  -- 'meter factor product from CTL and CPL at the meter'
-  pub meter-factor : RoundedTo 4 (combined 4 (run .meter .ctl ∷ f .meter .cpl ∷ [])) (f .meter .factor)
-  -- 'Corrected meter volume = indicated volume × meter product'
-  pub meter-volume : RoundedTo 4 (f .indicated * f .meter .factor over 100000000) (f .meter .volume)
-  -- 'Run factor = corrected prover volume ÷ corrected meter volume'
-  pub run-factor : RoundedTo 4 (f .prover .volume over f .meter .volume) (f .factor)
-
 -- a factor in range came of a divisor that is not zero
 divisor-some : (n d : ℕ) → runFactorOk (rounded 4 (n over d)) ≡ true → 0 < d
 unfolding runFactorOk rounded roundedDiv
@@ -215,17 +185,6 @@ job-factor-rounded request prover k limit s r used =
 
 -- ---- a water draw
 
--- 01, 'Water draw', of a fill
-pub record FillRounded (metal : Metal) (s : List ℕ) (i : ℕ) (f : FillFigures) : Type 0 where
-  -- 'adjusted measure = certified volume + scale reading'
-  pub adjusted-measure : f .adjusted ≡ natAbs (pos (fillAt s i .certified) +ℤ fillAt s i .scale)
-  pub measure-steel : RoundedTo 6 (cts (fillAt s i .measure) (fillAt s i .coefficient)) (f .measure)
-  pub prover-steel : RoundedTo 6 (cts (fillAt s i .prover) (coefficientOf metal)) (f .prover)
-  -- 'CCTS = rounded measure CTS ÷ rounded prover CTS'
-  pub steel-ratio : RoundedTo 6 (f .measure over f .prover) (f .ccts)
-  -- 'drawn = adjusted × CTDW × CCTS', two factors of 10^-6
-  pub drawn-volume : RoundedOnce (f .adjusted * fillAt s i .ctdw * f .ccts) (10 ^ 12) (f .drawn)
-
 -- CTS is nowhere near zero
 cts-some : (metal : Metal) (t : ℤ) → metalOk metal ≡ true → temperatureOk t ≡ true → 0 < ctsAt 6 metal t
 unfolding ctsAt cts metalOk coefficientOk rounded
@@ -243,12 +202,6 @@ fill-rounded metal s i m ok =
       steel-ratio = to 6 _ _ (cts-some metal (fillAt s i .prover) m (fields (fillAt s i) ok .prover));
       drawn-volume = once _ (10 ^ 12) (omega arith);
     }
-
--- 'A pass is the sum of its fills, divided by the unrounded product CPS × CPL, then rounded', each factor counting 10^-6
-pub record PassRounded (prover : Prover) (s : List ℕ) (pass : ℕ) : Type 0 where
-  pub pipe-pressure : RoundedTo 6 (cps (passPressure s pass) (prover .pipe .diameter) (prover .pipe .modulus) (prover .pipe .wall)) (cpsAt 6 (prover .pipe) (passPressure s pass))
-  pub water-pressure : RoundedTo 6 (cpl waterCompressibility (passPressure s pass)) (cplAt 6 (waterAt (passPressure s pass)))
-  pub pass-volume : RoundedOnce (passSum (prover .metal) s pass * 10 ^ 12) (cpsAt 6 (prover .pipe) (passPressure s pass) * cplAt 6 (waterAt (passPressure s pass))) (passVolume prover s pass)
 
 pipe-some : (pipe : Pipe) (p : ℕ) → pipeOk pipe ≡ true → pressureOk p ≡ true → 0 < cpsAt 6 pipe p
 unfolding cpsAt cps rounded
@@ -293,16 +246,6 @@ base-rounded prover s b used = (
 )
 
 -- ---- a ticket
-
--- 01, 'Ticket': every figure is its formula on the rounded figures before it
-pub record TicketRounded (t : Ticket) (v : Volumes) : Type 0 where
-  pub liquid : RoundedTo 4 (cpl (t .liquid .compressibility) (t .liquid .pressure)) (cplAt 4 (t .liquid))
-  -- 'Factor = meter factor × CTL × CPL (from the ticket's P and F), 4 places'
-  pub ticket-factor : RoundedTo 4 (combined 4 (t .mf ∷ t .ctl ∷ cplAt 4 (t .liquid) ∷ [])) (v .factor)
-  -- 'Gross standard = indicated × factor, to 0.01'
-  pub gross-standard : RoundedOnce ((t .closing - t .opening) * v .factor) 10000 (v .gross)
-  -- 'Net = gross × (100000 - S) ÷ 100000'
-  pub net-volume : RoundedOnce (v .gross * (100000 - t .sediment)) 100000 (v .net)
 
 volumes-rounded : (t : Ticket) → liquidOk (t .liquid) ≡ true → TicketRounded t (volumes t)
 unfolding volumes measured factor gross net

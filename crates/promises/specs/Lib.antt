@@ -8,3 +8,6 @@ pub mod Jobs
 pub mod Outcome
 pub mod OneOutcome
 pub mod Figures
+pub mod OneOutcomeC
+pub mod GrammarOutcome
+pub mod Formulas

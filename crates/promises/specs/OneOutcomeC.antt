@@ -1,0 +1,39 @@
+-- One outcome for each function of the C face that takes no book by pointer; those that do are in proofs/OneOutcomeC.antt.
+use Rattle.api.proofs.corrections.endakuro_cts.Reads as cts
+use Rattle.api.proofs.corrections.endakuro_cps.Reads as cps
+use Rattle.api.proofs.corrections.endakuro_cpl.Reads as cpl
+use Rattle.api.proofs.quotients.endakuro_rounded_ratio.Reads as ratio
+use Rattle.api.proofs.jobs.endakuro_prove.Reads as prove
+use Rattle.api.proofs.jobs.endakuro_accept.Reads as accept
+use Rattle.api.proofs.jobs.endakuro_run.Reads as a-run
+use Rattle.api.proofs.reports.endakuro_write.Reads as write
+use Rattle.api.proofs.reports.endakuro_read.Reads as read
+use Rattle.api.proofs.water.endakuro_fill.Reads as fill
+use Rattle.api.proofs.water.endakuro_passes.Reads as passes
+use Rattle.api.proofs.water.endakuro_draw.Reads as draw
+use Rattle.api.proofs.tickets.endakuro_ticket.Reads as ticket
+use Rattle.api.proofs.readings.endakuro_live.Reads as live
+use Rattle.api.proofs.books.endakuro_empty.Reads as empty
+use Rattle.promises.specs.Arguments.{fifth, sixth}
+use Rattle.promises.specs.Outcome.{OneAnswer, OneLeft}
+
+pub record OneOutcomeC : Type 0 where
+  pub cts-one : OneAnswer cts.Post
+  pub cps-one : OneAnswer cps.Post
+  pub cpl-one : OneAnswer cpl.Post
+  pub ratio-one : OneAnswer ratio.Post
+  pub prove-one : OneAnswer prove.Post
+  -- and the bytes left in its buffer
+  pub prove-left : OneLeft prove.Post (λ κ x. sixth x .now)
+  pub accept-one : OneAnswer accept.Post
+  pub run-one : OneAnswer a-run.Post
+  pub write-one : OneAnswer write.Post
+  -- and the bytes left in its buffer
+  pub write-left : OneLeft write.Post (λ κ x. fifth x .now)
+  pub read-one : OneAnswer read.Post
+  pub fill-one : OneAnswer fill.Post
+  pub passes-one : OneAnswer passes.Post
+  pub draw-one : OneAnswer draw.Post
+  pub ticket-one : OneAnswer ticket.Post
+  pub live-one : OneAnswer live.Post
+  pub empty-one : OneAnswer empty.Post
