@@ -22,7 +22,9 @@ LABEL = re.compile(r"^# (?P<label>\w+) in (?P<function>\w+(?:::\w+)*): \S")
 # What a refusal says when a fact fails: two terms differ, or a goal does not follow.
 FACT = re.compile(
     r"the two (types|values) (first )?differ|but this has type|but the extension \(path\) type requires|`omega`: .*(does not follow|fails, at)|`search`: no proof of"
-    r"|`cc` (concluded nothing|did not conclude)|what it leaves must be a path whose two ends are equal",
+    r"|`cc` (concluded nothing|did not conclude)|what it leaves must be a path whose two ends are equal"
+    # the same equations join the two ends of the right program within the bound
+    r"|`cc` met a bound of its own before the equations had joined",
     re.S,
 )
 # What it says when only the proof's own text no longer fits: a name, a field or a need that is not there, other code than it walks, or
