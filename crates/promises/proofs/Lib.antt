@@ -11,6 +11,7 @@ pub mod Jobs
 pub mod Demand3
 pub mod OneOutcome
 pub mod GrammarOutcome
-pub mod Keeper
 pub mod OneOutcomeC
+pub mod InPlace
+pub mod InPlaceC
 pub mod Flattened

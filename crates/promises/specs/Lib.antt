@@ -10,4 +10,6 @@ pub mod OneOutcome
 pub mod Figures
 pub mod OneOutcomeC
 pub mod GrammarOutcome
+pub mod InPlace
+pub mod InPlaceC
 pub mod Formulas

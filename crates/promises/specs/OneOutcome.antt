@@ -1,5 +1,5 @@
--- One outcome for each public function of the libraries. Those that change a book in place are in Keeper.antt, the grammar's in
--- GrammarOutcome.antt, the C face's in OneOutcomeC.antt.
+-- One outcome for each public function of the libraries. Those that change a book in place are in InPlace.antt, the grammar's in
+-- GrammarOutcome.antt, the C face's in OneOutcomeC.antt and InPlaceC.antt.
 use Rattle.refusals.proofs.give_back.Reads as refusals-give-back
 use Rattle.refusals.proofs.demand.Reads as refusals-demand
 use Rattle.refusals.proofs.or_else.Reads as refusals-or-else

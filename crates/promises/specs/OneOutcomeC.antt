@@ -1,4 +1,4 @@
--- One outcome for each function of the C face that takes no book by pointer; those that do are in proofs/OneOutcomeC.antt.
+-- One outcome for each function of the C face that takes no book by pointer; those that do are in InPlaceC.antt.
 use Rattle.api.proofs.corrections.endakuro_cts.Reads as cts
 use Rattle.api.proofs.corrections.endakuro_cps.Reads as cps
 use Rattle.api.proofs.corrections.endakuro_cpl.Reads as cpl

@@ -17,3 +17,7 @@ OneRead {K} {A} {R} {X} post bytes = (κ : K) (a : A κ) (r q : R κ) (x y : X �
 -- and the same bytes in what was lent to be written
 abbrev pub OneLeft : {K : Type 0} {A R X : K → Type 0} → ((κ : K) → A κ → R κ → X κ → Type 0) → ((κ : K) → X κ → List ℕ) → Type 0
 OneLeft {K} {A} {R} {X} post bytes = (κ : K) (a : A κ) (r q : R κ) (x y : X κ) → post κ a r x → post κ a q y → bytes κ x ≡ bytes κ y
+
+-- of a call that changes a book in place: two outcomes at the same book have the same answer, and leave the same book
+abbrev pub OneChange : {S R : Type 0} → (S → S → R → Type 0) → Type 0
+OneChange {S} {R} says = (found left left′ : S) (r q : R) → says found left r → says found left′ q → (r ≡ q) × (left ≡ left′)
