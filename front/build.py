@@ -1,5 +1,6 @@
 """Building the line program: proved on first use, and again when a source is newer."""
 
+import os
 import shutil
 import subprocess
 import sys
@@ -11,6 +12,8 @@ NAME = "endakuro"
 BINARY = ROOT / "target" / "bin" / NAME
 # When the sources were last found proved; rt leaves the program's own date as it is when nothing changed.
 STAMP = ROOT / "target" / "front-checked"
+# rt starts this many checks together and waits for the last of them: more than most machines have processors, so that none stands idle.
+CHECKS = "8"
 
 
 class BuildFailed(Exception):
@@ -54,7 +57,13 @@ def ensure():
     first = "first use: " if not BINARY.is_file() else ""
     print(f"{first}proving {NAME} and what it stands on, {total} crates, some minutes", file=err, flush=True)
     process = subprocess.Popen(
-        ["rt", "check", NAME], cwd=ROOT, stdout=subprocess.PIPE, stderr=subprocess.STDOUT, text=True, errors="replace"
+        ["rt", "check", NAME],
+        cwd=ROOT,
+        env={"RT_JOBS": CHECKS, **os.environ},
+        stdout=subprocess.PIPE,
+        stderr=subprocess.STDOUT,
+        text=True,
+        errors="replace",
     )
     printed = watch(process, total, err)
     if process.wait():
