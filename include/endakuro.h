@@ -76,8 +76,8 @@ extern "C" {
 
 /* ---- Correction factors ----
  *
- * places is 4 (proving, tickets) or 6 (water draw); any other number counts as 4. A factor is in 10^-places:
- * 10003 at 4 places is 1.0003. */
+ * Each has two functions: at four places, for proving and tickets, and at six, for water draw. 1.0003 is 10003 at
+ * four places and 1000300 at six. */
 
 /* A metal goes in as two numbers: its name, and a certified cubical coefficient or 0. A certificate wins over
  * the name. Refused 3: a coefficient out of range, ENDAKURO_NO_NAME without one, any name above that. */
@@ -96,13 +96,16 @@ typedef struct EndakuroFactor {
 } EndakuroFactor;
 
 /* CTS, the effect of temperature on steel. Refuses 3 for the metal, then 5 for t; record is 0. */
-EndakuroFactor endakuro_cts(int16_t t, uint8_t metal, uint16_t coefficient, uint8_t places);
+EndakuroFactor endakuro_cts_four(int16_t t, uint8_t metal, uint16_t coefficient);
+EndakuroFactor endakuro_cts_six(int16_t t, uint8_t metal, uint16_t coefficient);
 
 /* CPS, the effect of pressure on steel. Refuses 3 for the pipe, then 5 for p; record is 0. */
-EndakuroFactor endakuro_cps(uint16_t p, uint32_t diameter, uint32_t wall, uint32_t modulus, uint8_t places);
+EndakuroFactor endakuro_cps_four(uint16_t p, uint32_t diameter, uint32_t wall, uint32_t modulus);
+EndakuroFactor endakuro_cps_six(uint16_t p, uint32_t diameter, uint32_t wall, uint32_t modulus);
 
 /* CPL, the effect of pressure on the liquid. Refuses 5; record is 0. */
-EndakuroFactor endakuro_cpl(uint16_t p, uint16_t f, uint8_t places);
+EndakuroFactor endakuro_cpl_four(uint16_t p, uint16_t f);
+EndakuroFactor endakuro_cpl_six(uint16_t p, uint16_t f);
 
 /* ---- Proving, by pipe prover ---- */
 

@@ -112,34 +112,31 @@ static void tell_lent(Lent *lent) {
 
 // ---- entries
 
-// A factor, and what the same call gives for a number of places that is neither 4 nor 6: as for 4.
-static void tell_factor(EndakuroFactor r, EndakuroFactor other, uint8_t places) {
-    require(places == 6 || (other.number == r.number && other.record == r.record && other.value == r.value),
-            "other places are not four");
+static void tell_factor(EndakuroFactor r) {
     tell(r.number, r.record, VALUES(r.value));
 }
 
-static const uint8_t other_places = 5;
+// The line's last operand of a factor, 4 or 6, chooses the function.
+static bool six_places(void) {
+    return number() == 6;
+}
 
 static void cts(void) {
     int16_t t = (int16_t)strtol(next_word(), NULL, 10);
     read_metal();
-    uint8_t places = (uint8_t)number();
-    tell_factor(endakuro_cts(t, metal, coefficient, places), endakuro_cts(t, metal, coefficient, other_places), places);
+    tell_factor(six_places() ? endakuro_cts_six(t, metal, coefficient) : endakuro_cts_four(t, metal, coefficient));
 }
 
 static void cps(void) {
     uint16_t p = (uint16_t)number();
     uint32_t diameter = number(), wall = number(), modulus = number();
-    uint8_t places = (uint8_t)number();
-    tell_factor(endakuro_cps(p, diameter, wall, modulus, places),
-                endakuro_cps(p, diameter, wall, modulus, other_places), places);
+    tell_factor(six_places() ? endakuro_cps_six(p, diameter, wall, modulus)
+                             : endakuro_cps_four(p, diameter, wall, modulus));
 }
 
 static void cpl(void) {
     uint16_t p = (uint16_t)number(), f = (uint16_t)number();
-    uint8_t places = (uint8_t)number();
-    tell_factor(endakuro_cpl(p, f, places), endakuro_cpl(p, f, other_places), places);
+    tell_factor(six_places() ? endakuro_cpl_six(p, f) : endakuro_cpl_four(p, f));
 }
 
 static void prove(void) {

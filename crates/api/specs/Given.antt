@@ -1,22 +1,14 @@
 -- What a C caller's numbers stand for.
-use mathlib.Core.Bool.{cond}
 use Prim.Native.Nat.{ℕ}
-use lib.Dec.{eqb}
 use Rattle.factors.specs.Metal.{metalBy}
 use Rattle.factors.specs.declared.Pipe.{Pipe}
 use Rattle.factors.specs.declared.Liquid.{Liquid}
-use Rattle.factors.specs.declared.Places.{Places}
-use Rattle.factors.specs.declared.Places.the-variants.{Four, Six}
 use Rattle.factors.specs.declared.Prover.{Prover}
 use Rattle.report.specs.declared.Factors.{Factors}
 use Rattle.ticket.specs.declared.Ticket.{Ticket}
 use Rattle.api.specs.declared.settings.EndakuroProver.{EndakuroProver}
 use Rattle.api.specs.declared.reports.EndakuroFactors.{EndakuroFactors}
 use Rattle.api.specs.declared.tickets.EndakuroTicket.{EndakuroTicket}
-
--- 'd is 4 for proving and tickets, 6 for water draw': 6 is six places, any other number four
-unfoldable pub placesBy : ℕ → Places
-placesBy places = cond (eqb places 6) Six Four
 
 abbrev pub pipeBy : ℕ → ℕ → ℕ → Pipe
 pipeBy diameter wall modulus = record { diameter = diameter; wall = wall; modulus = modulus }

@@ -1,8 +1,7 @@
 // The prover's settings as a C caller gives them.
 ghost use mathlib.Core.Path.{_≡_};
-ghost use Rattle.api.specs.Given.{placesBy, proverBy};
+ghost use Rattle.api.specs.Given.{proverBy};
 use factors::Pipe;
-use factors::Places;
 use factors::Prover;
 
 // Base volume in 0.0001 barrel, diameter and wall in 0.001 inch, modulus in psi, the certified coefficient
@@ -15,17 +14,6 @@ pub struct EndakuroProver {
     pub modulus: u32,
     pub coefficient: u16,
     pub metal: u8,
-}
-
-// Six places for 6, and four for any other number: the table has no number that would refuse one.
-pub(crate) fn choose_places(places: u8) -> Places
-    ensures { λ r. ⌜ r ≡ placesBy places ⌝ }
-{
-    if places == 6 {
-        Places::Six
-    } else {
-        Places::Four
-    }
 }
 
 pub(crate) fn take_up(given: EndakuroProver) -> Prover

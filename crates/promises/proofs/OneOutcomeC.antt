@@ -5,9 +5,12 @@ use Rattle.promises.proofs.OneOutcome.{same}
 pub one-outcome-c : OneOutcomeC
 one-outcome-c =
     record {
-      cts-one = λ _ _ _ _ _ _. same;
-      cps-one = λ _ _ _ _ _ _. same;
-      cpl-one = λ _ _ _ _ _ _. same;
+      cts-four-one = λ _ _ _ _ _ _. same;
+      cts-six-one = λ _ _ _ _ _ _. same;
+      cps-four-one = λ _ _ _ _ _ _. same;
+      cps-six-one = λ _ _ _ _ _ _. same;
+      cpl-four-one = λ _ _ _ _ _ _. same;
+      cpl-six-one = λ _ _ _ _ _ _. same;
       ratio-one = λ _ _ _ _ _ _. same;
       prove-one = λ _ _ _ _ _ _ p p′. same (p .0) (p′ .0);
       prove-left = λ _ _ _ _ _ _ p p′. same (p .1) (p′ .1);

@@ -1,7 +1,10 @@
 -- One outcome for each function of the C face that takes no book by pointer; those that do are in InPlaceC.antt.
-use Rattle.api.proofs.corrections.endakuro_cts.Reads as cts
-use Rattle.api.proofs.corrections.endakuro_cps.Reads as cps
-use Rattle.api.proofs.corrections.endakuro_cpl.Reads as cpl
+use Rattle.api.proofs.corrections.endakuro_cts_four.Reads as cts-four
+use Rattle.api.proofs.corrections.endakuro_cts_six.Reads as cts-six
+use Rattle.api.proofs.corrections.endakuro_cps_four.Reads as cps-four
+use Rattle.api.proofs.corrections.endakuro_cps_six.Reads as cps-six
+use Rattle.api.proofs.corrections.endakuro_cpl_four.Reads as cpl-four
+use Rattle.api.proofs.corrections.endakuro_cpl_six.Reads as cpl-six
 use Rattle.api.proofs.quotients.endakuro_rounded_ratio.Reads as ratio
 use Rattle.api.proofs.jobs.endakuro_prove.Reads as prove
 use Rattle.api.proofs.jobs.endakuro_accept.Reads as accept
@@ -18,9 +21,12 @@ use Rattle.promises.specs.Arguments.{fifth, sixth}
 use Rattle.promises.specs.Outcome.{OneAnswer, OneLeft}
 
 pub record OneOutcomeC : Type 0 where
-  pub cts-one : OneAnswer cts.Post
-  pub cps-one : OneAnswer cps.Post
-  pub cpl-one : OneAnswer cpl.Post
+  pub cts-four-one : OneAnswer cts-four.Post
+  pub cts-six-one : OneAnswer cts-six.Post
+  pub cps-four-one : OneAnswer cps-four.Post
+  pub cps-six-one : OneAnswer cps-six.Post
+  pub cpl-four-one : OneAnswer cpl-four.Post
+  pub cpl-six-one : OneAnswer cpl-six.Post
   pub ratio-one : OneAnswer ratio.Post
   pub prove-one : OneAnswer prove.Post
   -- and the bytes left in its buffer
