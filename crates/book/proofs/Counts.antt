@@ -9,7 +9,7 @@ use lib.Dec.{eqb}
 use Rattle.book.specs.Line.{without}
 use Rattle.book.specs.Figures.{waitingOf}
 use Rattle.book.specs.Calls.{entered, removed}
-use Rattle.book.specs.Demand3.{Call, request, withdrawal, take, Answer, after, afterAll, grants, goesIn, isWithdrawn, isTaken, howOften, times}
+use Rattle.book.specs.Demand3.{Call, request, withdrawal, take, Answer, answerTo, after, afterAll, step, answersTo, grants, goesIn, isWithdrawn, isTaken, howOften, times}
 use Rattle.book.specs.declared.Book.{Book}
 use Rattle.book.proofs.Books.{SoundBook}
 use Rattle.book.proofs.Kept.{In, no-in, went-in, Out, no-out, went-out, request-did, withdrawal-did, take-did, sound-after, put-line}
@@ -36,7 +36,8 @@ module _ (s x : ℕ) (book : Book) (sound : SoundBook book) where
 
 -- at each call
 moves : (s x : ℕ) (call : Call) (book : Book) → SoundBook book
-    → once (goesIn s x call book) + times x (waitingOf book s) ≡ once (isTaken s x call book) + (once (isWithdrawn s x call book) + times x (waitingOf (after call book) s))
+    → once (goesIn s x (step call (answerTo call book))) + times x (waitingOf book s)
+    ≡ once (isTaken s x (step call (answerTo call book))) + (once (isWithdrawn s x (step call (answerTo call book))) + times x (waitingOf (after call book) s))
 unfolding goesIn isTaken isWithdrawn after
 moves s x (request t y) book sound = let h = in-counts s x book sound (request-did book t y) in omega arith
 moves s x (withdrawal t y) book sound = let h = out-counts s x book sound (withdrawal-did book t y) in omega arith
@@ -44,8 +45,9 @@ moves s x take book sound = let h = out-counts s x book sound (take-did book) in
 
 -- over all calls
 pub balance : (s x : ℕ) (calls : List Call) (book : Book) → SoundBook book
-    → howOften (goesIn s x) calls book + times x (waitingOf book s) ≡ howOften (isTaken s x) calls book + howOften (isWithdrawn s x) calls book + times x (waitingOf (afterAll calls book) s)
-unfolding howOften afterAll
+    → howOften (goesIn s x) (answersTo calls book) + times x (waitingOf book s)
+    ≡ howOften (isTaken s x) (answersTo calls book) + howOften (isWithdrawn s x) (answersTo calls book) + times x (waitingOf (afterAll calls book) s)
+unfolding howOften answersTo afterAll
 balance s x [] book sound = omega arith
 balance s x (call ∷ calls) book sound =
     let here = moves s x call book sound in

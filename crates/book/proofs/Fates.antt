@@ -19,7 +19,7 @@ use Rattle.octets.proofs.FirstToLast.{place-none}
 use Rattle.book.specs.Line.{without}
 use Rattle.book.specs.Figures.{shippers, waitingOf, has, put}
 use Rattle.book.specs.Calls.{entered, afterRequest, removed, afterWithdrawal, ofTurn, hasAny, nextTurn, oldestOf, handedOut, takeOf, afterTake}
-use Rattle.book.specs.Demand3.{Call, request, withdrawal, take, Answer, answerTo, after, afterAll, takes, grants, isWithdrawn, isTaken, Fate, taken, withdrawn, waits, earlier, fateOf, NoLaterThan}
+use Rattle.book.specs.Demand3.{Call, request, withdrawal, take, Answer, answerTo, after, afterAll, Step, step, answersTo, takes, grants, isWithdrawn, isTaken, Fate, taken, withdrawn, waits, earlier, fateOf, NoLaterThan}
 use Rattle.book.specs.declared.Book.{Book}
 use Rattle.book.proofs.Books.{SoundBook, is-sound}
 use Rattle.book.proofs.Kept.{In, no-in, went-in, Out, no-out, went-out, request-did, in-turn, withdrawal-did, withdrawal-turn, take-did, turn-known, turn-first, turn-any, sound-after, put-line}
@@ -90,7 +90,7 @@ module _ (s x : ℕ) (book : Book) (sound : SoundBook book) (k t : ℕ) (w : Wai
       let some : 0 < length (waitingOf book s) = omega arith in
       ap (λ (r : ℕ). ltb 0 (length (waitingOf book r))) (w .mine) ∙ lt-ltb _ _ some
 
-  module _ (not : isTaken s x take book ≡ false) (j : ℕ) (is : nextTurn book ≡ some j) where
+  module _ (not : grants s x (answerTo take book) ≡ false) (j : ℕ) (is : nextTurn book ≡ some j) where
     -- the shipper served, and its oldest
     u : ℕ
     u = ofTurn book j
@@ -112,7 +112,7 @@ module _ (s x : ℕ) (book : Book) (sound : SoundBook book) (k t : ℕ) (w : Wai
 
     -- its shipper's turn comes later
     later : j < t → Nearer
-    unfolding isTaken ofTurn shippers u
+    unfolding ofTurn shippers u
     later h =
         let all : book .last + j + (t - j) ≡ book .last + t = omega arith in
         record {
@@ -143,7 +143,6 @@ module _ (s x : ℕ) (book : Book) (sound : SoundBook book) (k t : ℕ) (w : Wai
       it e = sym (w .stands .there) ∙ ap (λ (n : ℕ). getD (waitingOf book s) n 0) e ∙ ap (λ (r : ℕ). getD (waitingOf book r) 0 0) (sym same)
 
       behind : 0 < w .stands .place
-      unfolding isTaken
       behind = pos-of-ne-zero (λ e. true≢false (sym (ap (grants s x) handed ∙ (λ i. eq-eqb s u (sym same) i && eq-eqb x oldest (it e) i)) ∙ not))
 
       line : waitingOf (afterTake book) s ≡ drop 1 (waitingOf book s)
@@ -181,7 +180,7 @@ module _ (s x : ℕ) (book : Book) (sound : SoundBook book) (k t : ℕ) (w : Wai
             less = let one = w .one in omega arith;
           }
 
-  nearer : isTaken s x take book ≡ false → Nearer
+  nearer : grants s x (answerTo take book) ≡ false → Nearer
   unfolding nextTurn shippers
   nearer not = by (nextTurn book) refl
     where
@@ -191,58 +190,71 @@ module _ (s x : ℕ) (book : Book) (sound : SoundBook book) (k t : ℕ) (w : Wai
           by-cases (decLt j t) (later not j is)
           (λ round. now not j is (let first = turn-first book is in let none : t < j → ⊥ = λ past. true≢false (sym any ∙ first .before t (w .one) past) in by-cases (decLt t j) (λ past. absurd (none past)) (λ same. omega arith)))
 
--- what a fate means: a take in time, a withdrawal, or too few takes and waiting still
+-- what a fate means, of the steps made and the book left: a take in time, a withdrawal, or too few takes and waiting still
 module _ (s x : ℕ) where
-  abbrev pub Comes : ℕ → List Call → Book → Fate → Type 0
-  Comes m calls book (taken n) = n ≤ m
-  Comes m calls book withdrawn = Unit {0}
-  Comes m calls book waits = (takes calls < m) × (isOneOf x (waitingOf (afterAll calls book) s) ≡ true)
+  abbrev pub Comes : ℕ → List Step → Book → Fate → Type 0
+  Comes m steps left (taken n) = n ≤ m
+  Comes m steps left withdrawn = Unit {0}
+  Comes m steps left waits = (takes steps < m) × (isOneOf x (waitingOf left s) ≡ true)
 
-  -- what holds of a fate holds a call earlier
-  not-a-take : (m : ℕ) (call : Call) (calls : List Call) (book : Book) → takes (call ∷ calls) ≡ takes calls → (fate : Fate) → Comes m calls (after call book) fate → Comes m (call ∷ calls) book fate
-  unfolding afterAll
-  not-a-take m call calls book same (taken n) h = h
-  not-a-take m call calls book same withdrawn h = h
-  not-a-take m call calls book same waits h = (let less = h .0 in omega arith, h .1)
+  -- what holds of a fate holds a step earlier
+  not-a-take : (m : ℕ) (first : Step) (rest : List Step) (left : Book) → takes (first ∷ rest) ≡ takes rest → (fate : Fate) → Comes m rest left fate → Comes m (first ∷ rest) left fate
+  not-a-take m first rest left same (taken n) h = h
+  not-a-take m first rest left same withdrawn h = h
+  not-a-take m first rest left same waits h = (let less = h .0 in omega arith, h .1)
 
-  one-take-more : (m : ℕ) (calls : List Call) (book : Book) (fate : Fate) → Comes m calls (afterTake book) fate → Comes (suc m) (take ∷ calls) book (earlier take fate)
-  unfolding takes afterAll after
-  one-take-more m calls book (taken n) h = omega arith
-  one-take-more m calls book withdrawn h = h
-  one-take-more m calls book waits h = (let less = h .0 in omega arith, h .1)
+  one-take-more : (m : ℕ) (answer : Answer) (rest : List Step) (left : Book) (fate : Fate) → Comes m rest left fate → Comes (suc m) (step take answer ∷ rest) left (earlier (step take answer) fate)
+  unfolding takes
+  one-take-more m answer rest left (taken n) h = omega arith
+  one-take-more m answer rest left withdrawn h = h
+  one-take-more m answer rest left waits h = (let less = h .0 in omega arith, h .1)
 
   -- a waiting request is taken before its turns are up, unless it is withdrawn first; and it waits still if neither
-  pub comes : (calls : List Call) (book : Book) (k t m : ℕ) → SoundBook book → Waits s x book k t → 4 * k + t ≤ m → Comes m calls book (fateOf s x calls book)
-  unfolding fateOf takes after afterAll isWithdrawn isTaken
+  pub comes : (calls : List Call) (book : Book) (k t m : ℕ) → SoundBook book → Waits s x book k t → 4 * k + t ≤ m → Comes m (answersTo calls book) (afterAll calls book) (fateOf s x (answersTo calls book))
+  unfolding answersTo fateOf takes after afterAll isWithdrawn isTaken
   comes [] book k t m sound w h = let st = w .stands in let one = w .one in (omega arith, among-at x (waitingOf book s) (st .place) (st .within) (st .there))
   comes (request u y ∷ calls) book k t m sound w h =
       let did = request-did book u y in
-      let still = waits-still s x book sound k t w (afterRequest book u y) (in-turn book did) (stands-in s x book sound k (w .stands) did) in
-      not-a-take m (request u y) calls book refl (fateOf s x calls (afterRequest book u y)) (comes calls (afterRequest book u y) k t m (sound-after (request u y) book sound) still h)
+      let next = afterRequest book u y in
+      let still = waits-still s x book sound k t w next (in-turn book did) (stands-in s x book sound k (w .stands) did) in
+      let steps = answersTo calls next in
+      not-a-take m (step (request u y) (answerTo (request u y) book)) steps (afterAll calls next) refl (fateOf s x steps) (comes calls next k t m (sound-after (request u y) book sound) still h)
   comes (withdrawal u y ∷ calls) book k t m sound w h =
-      by (isWithdrawn s x (withdrawal u y) book) refl
+      by (grants s x (answerTo (withdrawal u y) book)) refl
       (λ not.
       let still = waits-still s x book sound k t w (afterWithdrawal book u y) (withdrawal-turn book u y) (stands-out s x book sound k (w .stands) (withdrawal-did book u y) not) in
       comes calls (afterWithdrawal book u y) k t m (sound-after (withdrawal u y) book sound) still h)
     where
-      by : (gone : Bool) → isWithdrawn s x (withdrawal u y) book ≡ gone → (isWithdrawn s x (withdrawal u y) book ≡ false → Comes m calls (afterWithdrawal book u y) (fateOf s x calls (afterWithdrawal book u y)))
-          → Comes m (withdrawal u y ∷ calls) book (cond gone withdrawn (fateOf s x calls (afterWithdrawal book u y)))
-      by true is rest = tt
-      by false is rest = not-a-take m (withdrawal u y) calls book refl (fateOf s x calls (afterWithdrawal book u y)) (rest is)
+      rest : List Step
+      rest = answersTo calls (afterWithdrawal book u y)
+
+      left : Book
+      left = afterAll calls (afterWithdrawal book u y)
+
+      by : (gone : Bool) → grants s x (answerTo (withdrawal u y) book) ≡ gone → (grants s x (answerTo (withdrawal u y) book) ≡ false → Comes m rest left (fateOf s x rest))
+          → Comes m (step (withdrawal u y) (answerTo (withdrawal u y) book) ∷ rest) left (cond gone withdrawn (fateOf s x rest))
+      by true is then = tt
+      by false is then = not-a-take m (step (withdrawal u y) (answerTo (withdrawal u y) book)) rest left refl (fateOf s x rest) (then is)
   comes (take ∷ calls) book k t zero sound w h = let one = w .one in absurd (omega arith)
   comes (take ∷ calls) book k t (suc m) sound w h =
-      by (isTaken s x take book) refl
+      by (grants s x (answerTo take book)) refl
       (λ not.
       let n = nearer s x book sound k t w not in
       let less = n .less in
       comes calls (afterTake book) (n .ahead) (n .turns) m (sound-after take book sound) (n .still) (omega arith))
     where
-      by : (gone : Bool) → isTaken s x take book ≡ gone → (isTaken s x take book ≡ false → Comes m calls (afterTake book) (fateOf s x calls (afterTake book)))
-          → Comes (suc m) (take ∷ calls) book (cond gone (taken 1) (earlier take (fateOf s x calls (afterTake book))))
-      by true is rest = omega arith
-      by false is rest = one-take-more m calls book (fateOf s x calls (afterTake book)) (rest is)
+      rest : List Step
+      rest = answersTo calls (afterTake book)
 
-  pub no-later : (m : ℕ) (calls : List Call) (book : Book) (fate : Fate) → Comes m calls book fate → NoLaterThan m calls fate
-  no-later m calls book (taken n) h = h
-  no-later m calls book withdrawn h = h
-  no-later m calls book waits h = h .0
+      left : Book
+      left = afterAll calls (afterTake book)
+
+      by : (gone : Bool) → grants s x (answerTo take book) ≡ gone → (grants s x (answerTo take book) ≡ false → Comes m rest left (fateOf s x rest))
+          → Comes (suc m) (step take (answerTo take book) ∷ rest) left (cond gone (taken 1) (earlier (step take (answerTo take book)) (fateOf s x rest)))
+      by true is then = omega arith
+      by false is then = one-take-more m (answerTo take book) rest left (fateOf s x rest) (then is)
+
+  pub no-later : (m : ℕ) (steps : List Step) (left : Book) (fate : Fate) → Comes m steps left fate → NoLaterThan m steps fate
+  no-later m steps left (taken n) h = h
+  no-later m steps left withdrawn h = h
+  no-later m steps left waits h = h .0

@@ -4,7 +4,7 @@ use mathlib.Core.Logic.{⊎-elim}
 use mathlib.Core.Bool.{Bool, true, false, _||_}
 use mathlib.Core.List.{List, [], _∷_, _++_}
 use mathlib.Core.Option.{Option, none, some}
-use Prim.Native.Nat.{ℕ, zero, suc, _+_, _≤_, _<_}
+use Prim.Native.Nat.{ℕ, _+_, _≤_, _<_}
 use native.Mathlib.Decide.{ℕ-discrete}
 use native.Mathlib.Omega.{arith}
 use borrow.Author.Tests.{ltb-true, lt-ltb, le-ltb}
@@ -12,13 +12,12 @@ use lib.Dec.{ltb}
 use lib.ListN.{length, getD, length-append}
 use Rattle.refusals.specs.Told.{done, refused, Fault, fine, fault, demand, unless, judged, leftBy}
 use Rattle.refusals.proofs.Laws.{done-one, refused-not-done}
-use Rattle.octets.specs.FirstToLast.{firstToLast, placeIf}
+use Rattle.octets.specs.FirstToLast.{placeIf}
 use Rattle.octets.specs.Lists.{isOneOf}
-use Rattle.octets.specs.Octets.{isZeroAt, zeroBetween}
 use Rattle.octets.proofs.FirstToLast.{places as searched, nowhere, place-no, First, place-first, first-place}
-use Rattle.book.specs.Line.{waiting, lineOf, without, areProper}
-use Rattle.book.specs.Figures.{shippers, overShippers, places, reserve, ceiling, commons, lineAt, waitingOf, has, beyond, commonsUsed, put, emptyBook}
-use Rattle.book.specs.Sound.{isLineSound, isSoundAt, areLinesSound, isSound}
+use Rattle.book.specs.Line.{without, areProper}
+use Rattle.book.specs.Figures.{shippers, reserve, ceiling, commons, lineAt, waitingOf, has, commonsUsed, put}
+use Rattle.book.specs.Sound.{isSound}
 use Rattle.book.specs.Answers.{Handed}
 use Rattle.book.specs.Calls.{requestFault, requestOf, entered, afterRequest, withdrawalFault, withdrawalOf, removed, afterWithdrawal, hasRoom, ofTurn, hasAny, nextTurn, oldestOf, handedOut, takeOf, afterTake}
 use Rattle.book.specs.Demand3.{Call, request, withdrawal, take, Answer, answerTo, after, afterAll}
@@ -180,19 +179,6 @@ pub sound-all : (calls : List Call) (book : Book) → SoundBook book → SoundBo
 unfolding afterAll
 sound-all [] book sound = sound
 sound-all (call ∷ calls) book sound = sound-all calls (after call book) (sound-after call book sound)
-
-pub empty-sound : isSound emptyBook ≡ true
-unfolding emptyBook shippers overShippers places lineOf isSound areLinesSound isSoundAt isLineSound areProper zeroBetween isZeroAt firstToLast commonsUsed beyond has waitingOf lineAt waiting reserve ceiling commons
-empty-sound = refl
-
--- nothing waits in the empty book
-pub empty-waiting : (s : ℕ) → waitingOf emptyBook s ≡ []
-unfolding emptyBook shippers lineOf waitingOf lineAt waiting
-empty-waiting zero = refl
-empty-waiting (suc zero) = refl
-empty-waiting (suc (suc zero)) = refl
-empty-waiting (suc (suc (suc zero))) = refl
-empty-waiting (suc (suc (suc (suc s)))) = refl
 
 -- what holds of a shipper's line after a change: of the new numbers where it is that shipper's, of the old ones where it is another's
 pub put-line : (P : List ℕ → Type 0) (book : Book) (t : ℕ) (xs : List ℕ) (last s : ℕ) → SoundBook book → t < 4 → (s ≡ t → P xs) → ((s ≡ t → ⊥) → P (waitingOf book s))

@@ -8,5 +8,6 @@ pub mod Puts
 pub mod Kept
 pub mod Fates
 pub mod Counts
+pub mod Empty
 pub mod Demand3
 pub mod Outcomes

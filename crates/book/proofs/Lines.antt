@@ -82,6 +82,10 @@ module _ (line : Line) (few : line .count ≤ 16) (wide : length (line .numbers)
       let rest : drop n s ≡ replicate (16 - n) 0 = sym (take-all (16 - n) (drop n s) (simp length-drop (omega arith))) ∙ zeros in
       sym (take-append-drop n s) ∙ ap (λ (tail : List ℕ). take n s ++ tail) (rest ∙ ap (λ (k : ℕ). replicate (16 - k) 0) (sym many))
 
+  -- it is the line of what waits in it
+  pub line-back : line ≡ lineOf (waiting line)
+  line-back = (λ i. record { numbers = numbers-padded i; count = sym (waiting-count line few wide) i }) ∙ line-of-padded (waiting line)
+
 lengthened : (xs : List ℕ) (x : ℕ) → length xs < 16 → set (padded xs) (length xs) x ≡ padded (xs ++ (x ∷ []))
 unfolding padded
 lengthened xs x few =

@@ -1,13 +1,20 @@
 -- Demand 3: 'any requests, withdrawals and takes in any order'. What a sequence of calls does to a book, and what becomes of a request.
-use mathlib.Core.Bool.{Bool, false, _&&_, cond}
+use mathlib.Core.Path.{_≡_}
+use mathlib.Core.Bool.{Bool, true, false, _&&_, cond}
 use mathlib.Core.List.{List, [], _∷_}
 use Prim.Native.Nat.{ℕ, suc, _+_, _≤_, _<_}
 use lib.Dec.{eqb}
 use Rattle.refusals.specs.Told.{Told, done, refused, judged}
-use Rattle.book.specs.Figures.{emptyBook}
+use Rattle.book.specs.Figures.{held}
+use Rattle.book.specs.Sound.{isSound}
 use Rattle.book.specs.Answers.{Handed}
 use Rattle.book.specs.Calls.{requestFault, afterRequest, withdrawalFault, afterWithdrawal, takeOf, afterTake}
 use Rattle.book.specs.declared.Book.{Book}
+
+-- 'a sound, empty book': nothing waits in it, whoever was served last
+pub record SoundEmpty (book : Book) : Type 0 where
+  pub sound : isSound book ≡ true
+  pub empty : held book ≡ 0
 
 -- A call on the book: a shipper's request or withdrawal of a number, or a take.
 pub data Call : Type 0 where
@@ -35,44 +42,49 @@ unfoldable pub afterAll : List Call → Book → Book
 afterAll [] book = book
 afterAll (call ∷ calls) book = afterAll calls (after call book)
 
--- 'Start from a sound, empty book and make any requests, withdrawals and takes in any order.'
-unfoldable pub bookAfter : List Call → Book
-bookAfter calls = afterAll calls emptyBook
+-- A call that was made, with what it was answered.
+pub data Step : Type 0 where
+  step : Call → Answer → Step
 
--- How many of the calls are takes.
-unfoldable pub takes : List Call → ℕ
+-- What a sequence of calls is answered, from a book on.
+unfoldable pub answersTo : List Call → Book → List Step
+answersTo [] book = []
+answersTo (call ∷ calls) book = step call (answerTo call book) ∷ answersTo calls (after call book)
+
+-- How many takes were made.
+unfoldable pub takes : List Step → ℕ
 takes [] = 0
-takes (request shipper number ∷ calls) = takes calls
-takes (withdrawal shipper number ∷ calls) = takes calls
-takes (take ∷ calls) = suc (takes calls)
+takes (step (request shipper number) answer ∷ steps) = takes steps
+takes (step (withdrawal shipper number) answer ∷ steps) = takes steps
+takes (step take answer ∷ steps) = suc (takes steps)
 
 -- The answer is that this request went in, was withdrawn or was handed out.
 abbrev pub grants : ℕ → ℕ → Answer → Bool
 grants shipper number (done handed) = eqb shipper (handed .shipper) && eqb number (handed .number)
 grants shipper number (refused n at) = false
 
--- At this call the shipper's request of the number goes in.
-unfoldable pub goesIn : ℕ → ℕ → Call → Book → Bool
-goesIn shipper number (request s x) book = grants shipper number (answerTo (request s x) book)
-goesIn shipper number (withdrawal s x) book = false
-goesIn shipper number take book = false
+-- At this step the shipper's request of the number goes in.
+unfoldable pub goesIn : ℕ → ℕ → Step → Bool
+goesIn shipper number (step (request s x) answer) = grants shipper number answer
+goesIn shipper number (step (withdrawal s x) answer) = false
+goesIn shipper number (step take answer) = false
 
--- At this call its shipper's withdrawal of it is granted.
-unfoldable pub isWithdrawn : ℕ → ℕ → Call → Book → Bool
-isWithdrawn shipper number (request s x) book = false
-isWithdrawn shipper number (withdrawal s x) book = grants shipper number (answerTo (withdrawal s x) book)
-isWithdrawn shipper number take book = false
+-- At this step its shipper's withdrawal of it is granted.
+unfoldable pub isWithdrawn : ℕ → ℕ → Step → Bool
+isWithdrawn shipper number (step (request s x) answer) = false
+isWithdrawn shipper number (step (withdrawal s x) answer) = grants shipper number answer
+isWithdrawn shipper number (step take answer) = false
 
--- At this call it is taken.
-unfoldable pub isTaken : ℕ → ℕ → Call → Book → Bool
-isTaken shipper number (request s x) book = false
-isTaken shipper number (withdrawal s x) book = false
-isTaken shipper number take book = grants shipper number (answerTo take book)
+-- At this step it is taken.
+unfoldable pub isTaken : ℕ → ℕ → Step → Bool
+isTaken shipper number (step (request s x) answer) = false
+isTaken shipper number (step (withdrawal s x) answer) = false
+isTaken shipper number (step take answer) = grants shipper number answer
 
--- At how many of the calls this happens.
-unfoldable pub howOften : (Call → Book → Bool) → List Call → Book → ℕ
-howOften happens [] book = 0
-howOften happens (call ∷ calls) book = cond (happens call book) 1 0 + howOften happens calls (after call book)
+-- At how many of the steps this happens.
+unfoldable pub howOften : (Step → Bool) → List Step → ℕ
+howOften happens [] = 0
+howOften happens (first ∷ rest) = cond (happens first) 1 0 + howOften happens rest
 
 -- How often a number waits in a line.
 unfoldable pub times : ℕ → List ℕ → ℕ
@@ -85,23 +97,23 @@ pub data Fate : Type 0 where
   withdrawn : Fate
   waits : Fate
 
--- the same, a call earlier: a take more to count where the call was one
-abbrev pub earlier : Call → Fate → Fate
-earlier take (taken n) = taken (suc n)
-earlier take withdrawn = withdrawn
-earlier take waits = waits
-earlier (request s x) fate = fate
-earlier (withdrawal s x) fate = fate
+-- the same, a step earlier: a take more to count where the step was one
+abbrev pub earlier : Step → Fate → Fate
+earlier (step take answer) (taken n) = taken (suc n)
+earlier (step take answer) withdrawn = withdrawn
+earlier (step take answer) waits = waits
+earlier (step (request s x) answer) fate = fate
+earlier (step (withdrawal s x) answer) fate = fate
 
-unfoldable pub fateOf : ℕ → ℕ → List Call → Book → Fate
-fateOf shipper number [] book = waits
-fateOf shipper number (call ∷ calls) book =
-    cond (isTaken shipper number call book) (taken 1)
-    (cond (isWithdrawn shipper number call book) withdrawn
-    (earlier call (fateOf shipper number calls (after call book))))
+unfoldable pub fateOf : ℕ → ℕ → List Step → Fate
+fateOf shipper number [] = waits
+fateOf shipper number (first ∷ rest) =
+    cond (isTaken shipper number first) (taken 1)
+    (cond (isWithdrawn shipper number first) withdrawn
+    (earlier first (fateOf shipper number rest)))
 
 -- 'taken no later than the m-th take .. unless its shipper withdraws it first': if it waits still, fewer than m takes were made.
-abbrev pub NoLaterThan : ℕ → List Call → Fate → Type 0
-NoLaterThan m calls (taken n) = n ≤ m
-NoLaterThan m calls withdrawn = Unit {0}
-NoLaterThan m calls waits = takes calls < m
+abbrev pub NoLaterThan : ℕ → List Step → Fate → Type 0
+NoLaterThan m steps (taken n) = n ≤ m
+NoLaterThan m steps withdrawn = Unit {0}
+NoLaterThan m steps waits = takes steps < m

@@ -1,74 +1,114 @@
--- Demand 3, sentence by sentence, of the meanings that the contracts of the book's calls cite, with the customer's own figures: 2 in
--- reserve, 8 at most, 8 shared. The laws are `book`'s; this page says them in the demand's words and order.
-use mathlib.Core.Path.{_≡_}
-use mathlib.Core.Bool.{true, false}
+-- Demand 3 of the code, on each of its faces: what a session leaves is what the book's meanings say (Sessions.antt), and of these the laws
+-- of `book` hold.
+use mathlib.Core.Path.{_≡_, refl, sym, ap, _∙_, subst}
+use mathlib.Core.Bool.{true}
 use mathlib.Core.List.{List}
-use Prim.Native.Nat.{ℕ, _+_, _*_, _≤_, _<_}
-use Rattle.refusals.specs.Told.{done, refused}
+use Prim.Native.Nat.{ℕ, _+_, _*_}
+use native.Mathlib.Omega.{arith}
+use borrow.Author.Tests.{lt-ltb}
+use Rattle.refusals.specs.Told.{Told, done, refused}
 use Rattle.octets.specs.Lists.{isOneOf}
-use Rattle.book.specs.Figures.{overShippers, places, reserve, ceiling, commons, waitingOf, has, held, commonsUsed, emptyBook}
+use Rattle.book.specs.Figures.{shippers, overShippers, places, reserve, ceiling, commons, waitingOf, has, emptyBook}
 use Rattle.book.specs.Sound.{isSound}
-use Rattle.book.specs.Calls.{requestOf, afterRequest}
-use Rattle.book.specs.Demand3.{Call, after, afterAll, bookAfter, goesIn, isWithdrawn, isTaken, howOften, times, waits, fateOf, NoLaterThan}
+use Rattle.book.specs.Calls.{requestFault, requestOf, afterRequest, takeOf}
+use Rattle.book.specs.Demand3.{SoundEmpty, request, take, Answer, answerTo, after, afterAll, Step, answersTo, goesIn, isWithdrawn, isTaken, howOften, times, waits, fateOf, NoLaterThan}
 use Rattle.book.specs.declared.Book.{Book}
 use Rattle.book.proofs.Demand3 as book
+use Rattle.book.proofs.Empty.{empty-from, no-other-empty}
+use Rattle.promises.specs.Sessions.{Contracts, Session, about, callsOf, AsMeant}
+use Rattle.promises.specs.Demand3.{Reached, WentIn, whether, Demand3, Demand3OnEachFace, EmptyBooks}
+use Rattle.promises.proofs.Sessions.{about-judged, sessions}
 
--- 'Start from a sound, empty book and make any requests, withdrawals and takes in any order.' It is sound, and stays so:
--- `bookAfter calls` is the book after any such calls.
-pub sound-at-first : isSound emptyBook ≡ true
-sound-at-first = book.empty-is-sound
+whether-about : (shipper number : ℕ) (t : Told Unit) → whether (about shipper number t) ≡ t
+whether-about shipper number (done made) = refl
+whether-about shipper number (refused n at) = refl
 
-pub sound-always : (calls : List Call) → isSound (bookAfter calls) ≡ true
-sound-always = book.always-sound
+module _ (does : Contracts) (meant : AsMeant does) where
+  -- a request's answer, of its meaning
+  module _ {shipper number : ℕ} {found left : Book} {answer : Answer} (did : does (request shipper number) found answer left) where
+    answered : answer ≡ about shipper number (requestOf found shipper number)
+    unfolding answerTo requestOf
+    answered = meant .each-call (request shipper number) found answer left did .0 ∙ sym (about-judged shipper number (requestFault found shipper number))
 
-module _ (calls : List Call) (shipper : ℕ) (known : shipper < 4) where
-  -- 'A shipper with fewer than 2 requests waiting always gets a valid new one in (number not zero, not waiting in its line);'
-  pub fewer-than-2-goes-in : has (bookAfter calls) shipper < 2 → (number : ℕ) → (number ≡ 0 → ⊥) → isOneOf number (waitingOf (bookAfter calls) shipper) ≡ false
-      → requestOf (bookAfter calls) shipper number ≡ done tt
-  unfolding reserve
-  fewer-than-2-goes-in few number valid new = book.below-the-reserve-goes-in calls shipper number known few valid new
+    whether-is : whether answer ≡ requestOf found shipper number
+    whether-is = ap whether answered ∙ whether-about shipper number (requestOf found shipper number)
 
-  -- 'one with 2 to 7 is refused it only when the 8 shared places are used up.'
-  pub refused-only-when-8-used : 2 ≤ has (bookAfter calls) shipper → has (bookAfter calls) shipper < 8 → (number : ℕ) → (number ≡ 0 → ⊥) → isOneOf number (waitingOf (bookAfter calls) shipper) ≡ false
-      → (n at : ℕ) → requestOf (bookAfter calls) shipper number ≡ refused n at → commonsUsed (bookAfter calls) ≡ 8
-  unfolding reserve ceiling commons places overShippers
-  refused-only-when-8-used many below number valid new = book.refused-only-when-commons-full calls shipper number known many below valid new
+    left-is : left ≡ afterRequest found shipper number
+    unfolding after
+    left-is = meant .each-call (request shipper number) found answer left did .1
 
-  -- 'Nobody ever has more than 8 waiting.'
-  pub never-more-than-8 : has (bookAfter calls) shipper ≤ 8
-  unfolding ceiling
-  never-more-than-8 = book.never-above-the-ceiling calls shipper known
+  take-answered : {found left : Book} {answer : Answer} → does take found answer left → answer ≡ takeOf found
+  unfolding answerTo
+  take-answered {found} {left} {answer} did = meant .each-call take found answer left did .0
 
--- All four together never have more than the 16 places: not after these calls, and in no sound book at all.
-pub never-more-than-16 : (found : Book) → isSound found ≡ true → held found ≤ 16
-unfolding places
-never-more-than-16 = book.never-above-the-places
+  sound-reached : (found : Book) → Reached does found → isSound found ≡ true
+  sound-reached found reached =
+      ap isSound (meant .every-session (reached .start) (reached .steps) found (reached .session) .1) ∙ book.always-sound (callsOf (reached .steps)) (reached .start) (reached .empty .sound)
 
--- Every call keeps a sound book sound, also one that came from elsewhere.
-pub sound-after-any-call : (call : Call) (found : Book) → isSound found ≡ true → isSound (after call found) ≡ true
-sound-after-any-call = book.every-call-keeps-soundness
+  -- what comes after a request that went in
+  module _ {found left : Book} {shipper number : ℕ} {later : List Step} (went : WentIn does shipper number found later left) where
+    in-it : requestOf found shipper number ≡ done tt
+    in-it = sym (whether-is (went .goes-in))
 
--- A request that went in, and whatever calls come later.
-module _ (calls : List Call) (shipper number : ℕ) (answer : requestOf (bookAfter calls) shipper number ≡ done tt) (later : List Call) where
-  -- 'A request that goes in behind k of its own shipper's is taken no later than the 4(k+1)th take after that, unless its shipper
-  -- withdraws it first.' Here k is `has`; a request that is neither taken nor withdrawn has seen fewer than 4(k+1) takes.
-  pub taken-by-4·k+1 : NoLaterThan (4 * (has (bookAfter calls) shipper + 1)) later (fateOf shipper number later (afterRequest (bookAfter calls) shipper number))
-  taken-by-4·k+1 = book.taken-in-time calls shipper number answer later
+    steps-are : later ≡ answersTo (callsOf later) (afterRequest found shipper number)
+    steps-are = meant .every-session (went .next) later left (went .session) .0 ∙ ap (answersTo (callsOf later)) (left-is (went .goes-in))
 
-  -- 'Each accepted request is taken or withdrawn at most once,': as long as no other of the same shipper and number goes in, it was taken
-  -- once, or withdrawn once, or waits once, and not two of these
-  pub at-most-once : howOften (goesIn shipper number) later (afterRequest (bookAfter calls) shipper number) ≡ 0
-      → howOften (isTaken shipper number) later (afterRequest (bookAfter calls) shipper number)
-      + howOften (isWithdrawn shipper number) later (afterRequest (bookAfter calls) shipper number)
-      + times number (waitingOf (afterAll later (afterRequest (bookAfter calls) shipper number)) shipper) ≡ 1
-  at-most-once = book.once-or-waiting calls shipper number answer later
+    left-then : left ≡ afterAll (callsOf later) (afterRequest found shipper number)
+    left-then = meant .every-session (went .next) later left (went .session) .1 ∙ ap (afterAll (callsOf later)) (left-is (went .goes-in))
 
-  -- 'and what is neither is waiting still.'
-  pub waiting-still : fateOf shipper number later (afterRequest (bookAfter calls) shipper number) ≡ waits
-      → isOneOf number (waitingOf (afterAll later (afterRequest (bookAfter calls) shipper number)) shipper) ≡ true
-  waiting-still = book.neither-waits-still calls shipper number answer later
+    in-time : NoLaterThan (4 * (has found shipper + 1)) later (fateOf shipper number later)
+    in-time =
+        subst (λ (steps : List Step). NoLaterThan (4 * (has found shipper + 1)) steps (fateOf shipper number steps)) (sym steps-are)
+        (book.taken-in-time found shipper number in-it (callsOf later))
 
--- The same for a number that comes back ('A number may come back once it has left'): all that went in were taken, or withdrawn, or wait.
-pub all-accounted-for : (calls : List Call) (shipper number : ℕ)
-    → howOften (goesIn shipper number) calls emptyBook ≡ howOften (isTaken shipper number) calls emptyBook + howOften (isWithdrawn shipper number) calls emptyBook + times number (waitingOf (bookAfter calls) shipper)
-all-accounted-for = book.all-accounted-for
+    once : howOften (goesIn shipper number) later ≡ 0 → howOften (isTaken shipper number) later + howOften (isWithdrawn shipper number) later + times number (waitingOf left shipper) ≡ 1
+    once alone =
+        (λ i. howOften (isTaken shipper number) (steps-are i) + howOften (isWithdrawn shipper number) (steps-are i) + times number (waitingOf (left-then i) shipper))
+        ∙ book.once-or-waiting found shipper number in-it (callsOf later) (ap (howOften (goesIn shipper number)) (sym steps-are) ∙ alone)
+
+    still : fateOf shipper number later ≡ waits → isOneOf number (waitingOf left shipper) ≡ true
+    still fate =
+        ap (λ (b : Book). isOneOf number (waitingOf b shipper)) left-then
+        ∙ book.neither-waits-still found shipper number in-it (callsOf later) (ap (fateOf shipper number) (sym steps-are) ∙ fate)
+
+  accounted : (start found : Book) (steps : List Step) (shipper number : ℕ) → SoundEmpty start → Session does start steps found
+      → howOften (goesIn shipper number) steps ≡ howOften (isTaken shipper number) steps + howOften (isWithdrawn shipper number) steps + times number (waitingOf found shipper)
+  accounted start found steps shipper number empty session =
+      let are = meant .every-session start steps found session in
+      ap (howOften (goesIn shipper number)) (are .0) ∙ book.all-accounted-for start empty (callsOf steps) shipper number
+      ∙ sym (λ i. howOften (isTaken shipper number) (are .0 i) + howOften (isWithdrawn shipper number) (are .0 i) + times number (waitingOf (are .1 i) shipper))
+
+  pub demand-3 : Demand3 does
+  unfolding shippers reserve ceiling commons places overShippers
+  demand-3 =
+      record {
+        sound-always = sound-reached;
+        sound-after-any-call = λ call found left answer sound did. ap isSound (meant .each-call call found answer left did .1) ∙ book.every-call-keeps-soundness call found sound;
+        fewer-than-2-goes-in = λ found left shipper number answer reached known few new did.
+            answered did ∙ ap (about shipper number) (book.below-the-reserve-goes-in found (sound-reached found reached) shipper known number (new .valid) (new .new) few);
+        refused-only-when-8-used = λ found left shipper number n at reached known many below new did.
+            book.refused-only-when-commons-full found (sound-reached found reached) shipper known number (new .valid) (new .new) below n at (sym (whether-is did));
+        never-more-than-8 = λ found shipper reached known. book.never-above-the-ceiling found (sound-reached found reached) shipper known;
+        never-more-than-16 = book.never-above-the-places;
+        waits-behind = λ found next shipper number did. ap (λ (b : Book). waitingOf b shipper) (left-is did) ∙ book.waits-behind found shipper number (sym (whether-is did));
+        taken-by-4·k+1 = λ found left shipper number later went. in-time went;
+        at-most-once = λ found left shipper number later went. once went;
+        waiting-still = λ found left shipper number later went. still went;
+        all-accounted-for = accounted;
+        waits-at-most-once = λ found shipper number reached known. book.waits-at-most-once found (sound-reached found reached) shipper known number;
+        request-depends-on = λ found other left left′ shipper shipper′ number answer answer′ sound sound′ known known′ line used did did′.
+            whether-is did ∙ book.request-depends-on found other shipper shipper′ number sound sound′ (lt-ltb shipper 4 known ∙ sym (lt-ltb shipper′ 4 known′)) line used ∙ sym (whether-is did′);
+        unknown-shipper = λ found left shipper number answer sound past did. answered did ∙ ap (about shipper number) (book.unknown-shipper found shipper number sound past);
+        take-depends-on = λ found other left left′ answer answer′ sound sound′ lines last did did′. take-answered did ∙ book.take-depends-on found other sound sound′ lines last ∙ sym (take-answered did′);
+      }
+
+pub demand-3-on-each-face : Demand3OnEachFace
+demand-3-on-each-face = record { by-value = demand-3 _ (sessions .by-value); in-place = demand-3 _ (sessions .in-place); from-c = demand-3 _ (sessions .from-c) }
+
+-- a new book has 3 as last served
+new-is-empty : (r : Book) → r ≡ emptyBook → SoundEmpty r
+unfolding emptyBook
+new-is-empty r is = subst SoundEmpty (sym is) (empty-from 3 (omega arith))
+
+pub empty-books : EmptyBooks
+empty-books = record { new-book = λ κ a r x. new-is-empty r; new-from-c = λ κ a r x. new-is-empty r; any-last = empty-from; no-other = no-other-empty }

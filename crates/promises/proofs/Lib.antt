@@ -8,10 +8,11 @@ pub mod AtFault
 pub mod Entries
 pub mod Formulas
 pub mod Jobs
-pub mod Demand3
 pub mod OneOutcome
 pub mod GrammarOutcome
 pub mod OneOutcomeC
 pub mod InPlace
 pub mod InPlaceC
 pub mod Flattened
+pub mod Sessions
+pub mod Demand3

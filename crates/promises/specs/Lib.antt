@@ -12,4 +12,6 @@ pub mod OneOutcomeC
 pub mod GrammarOutcome
 pub mod InPlace
 pub mod InPlaceC
+pub mod Sessions
+pub mod Demand3
 pub mod Formulas
