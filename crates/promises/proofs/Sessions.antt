@@ -25,7 +25,7 @@ use Rattle.book.specs.declared.Handout.the-variants as handout
 use Rattle.api.specs.Flat.{numberIn, recordIn, valuesIn, noHandout, flatDone, flatTaken}
 use Rattle.api.specs.declared.books.EndakuroDone.{EndakuroDone}
 use Rattle.api.specs.declared.books.EndakuroTaken.{EndakuroTaken}
-use Rattle.promises.specs.Sessions.{Contracts, Session, about, ByValue, InPlace, read, FromC, callsOf, AsMeant, Sessions}
+use Rattle.promises.specs.Sessions.{Contracts, Session, about, ByValue, KeptInPlace, read, FromC, callsOf, AsMeant, Sessions}
 use Rattle.promises.proofs.Flattened.{Numbered, change-numbered, take-numbered}
 
 -- ---- a session of calls that each do what they mean
@@ -123,14 +123,14 @@ by-value-meets take found = let t = tells-take found in (record { book = afterTa
 
 -- ---- in place
 
-in-place-gives : Gives InPlace
-unfolding InPlace answerTo after requestOf withdrawalOf
+in-place-gives : Gives KeptInPlace
+unfolding KeptInPlace answerTo after requestOf withdrawalOf
 in-place-gives (request s x) found answer left (r, post, told) = (told ∙ told-about s x (requestFault found s x) _ (post .0), post .1)
 in-place-gives (withdrawal s x) found answer left (r, post, told) = (told ∙ told-about s x (withdrawalFault found s x) _ (post .0), post .1)
 in-place-gives take found answer left (r, post, told) = (told ∙ post .0, post .1)
 
-in-place-meets : Meets InPlace
-unfolding InPlace answerTo after requestOf withdrawalOf
+in-place-meets : Meets KeptInPlace
+unfolding KeptInPlace answerTo after requestOf withdrawalOf
 in-place-meets (request s x) found = let t = tells-request found s x in (t .case, (t .tells, refl), sym (told-about s x (requestFault found s x) _ (t .tells)))
 in-place-meets (withdrawal s x) found = let t = tells-withdrawal found s x in (t .case, (t .tells, refl), sym (told-about s x (withdrawalFault found s x) _ (t .tells)))
 in-place-meets take found = let t = tells-take found in (t .0, (t .1, refl), sym (t .1))
@@ -176,6 +176,6 @@ pub sessions : Sessions
 sessions =
     record {
       by-value = as-meant ByValue by-value-gives by-value-meets;
-      in-place = as-meant InPlace in-place-gives in-place-meets;
+      in-place = as-meant KeptInPlace in-place-gives in-place-meets;
       from-c = as-meant FromC from-c-gives from-c-meets;
     }

@@ -12,7 +12,7 @@ use Rattle.book.specs.Demand3.{SoundEmpty, Call, request, take, Answer, Step, g
 use Rattle.book.specs.declared.Book.{Book}
 use Rattle.book.proofs.Book.empty.Reads as book-empty
 use Rattle.api.proofs.books.endakuro_empty.Reads as c-empty
-use Rattle.promises.specs.Sessions.{Contracts, Session, ByValue, InPlace, FromC}
+use Rattle.promises.specs.Sessions.{Contracts, Session, ByValue, KeptInPlace, FromC}
 
 -- 'Start from a sound, empty book and make any requests, withdrawals and takes in any order.' A book that is reached so:
 pub record Reached (does : Contracts) (book : Book) : Type 0 where
@@ -86,7 +86,7 @@ pub record Demand3 (does : Contracts) : Type 0 where
 
 pub record Demand3OnEachFace : Type 0 where
   pub by-value : Demand3 ByValue
-  pub in-place : Demand3 InPlace
+  pub in-place : Demand3 KeptInPlace
   pub from-c : Demand3 FromC
 
 -- 'a sound, empty book': a new one is, of `book` and from C, and so is one like it with any other shipper served last; no other book is.

@@ -48,11 +48,11 @@ ByValue (withdrawal shipper number) found answer left =
     (r : Changed) × (book-withdraw.Post tt (given found shipper number) r (given found shipper number)) × (answer ≡ about shipper number (toldChange (r .answer))) × (left ≡ r .book)
 ByValue take found answer left = (r : Taken) × (book-take.Post tt (found, tt) r (found, tt)) × (answer ≡ toldTake (r .answer)) × (left ≡ r .book)
 
--- In place: what `keeper`'s clauses say (InPlace.antt).
-unfoldable pub InPlace : Contracts
-InPlace (request shipper number) found answer left = (r : Change) × (keeper.Requests shipper number found left r) × (answer ≡ about shipper number (toldChange r))
-InPlace (withdrawal shipper number) found answer left = (r : Change) × (keeper.Withdraws shipper number found left r) × (answer ≡ about shipper number (toldChange r))
-InPlace take found answer left = (r : Handout) × (keeper.Takes found left r) × (answer ≡ toldTake r)
+-- 'the controller keeps one book and changes it in place': what `keeper`'s clauses say (InPlace.antt).
+unfoldable pub KeptInPlace : Contracts
+KeptInPlace (request shipper number) found answer left = (r : Change) × (keeper.Requests shipper number found left r) × (answer ≡ about shipper number (toldChange r))
+KeptInPlace (withdrawal shipper number) found answer left = (r : Change) × (keeper.Withdraws shipper number found left r) × (answer ≡ about shipper number (toldChange r))
+KeptInPlace take found answer left = (r : Handout) × (keeper.Takes found left r) × (answer ≡ toldTake r)
 
 -- From C: what the C functions' clauses say (InPlaceC.antt). A caller reads the struct: number 0 is done, any other is the refusal's.
 abbrev pub read : {A : Type 0} → ℕ → ℕ → A → Told A
@@ -76,5 +76,5 @@ pub record AsMeant (does : Contracts) : Type 0 where
 
 pub record Sessions : Type 0 where
   pub by-value : AsMeant ByValue
-  pub in-place : AsMeant InPlace
+  pub in-place : AsMeant KeptInPlace
   pub from-c : AsMeant FromC
