@@ -2,6 +2,7 @@
 
 from fractions import Fraction
 
+from refusals import NO_GROUP, Refused
 from rounding import rounded
 
 
@@ -17,6 +18,18 @@ def first_group(values, size, limit):
         if qualifies(values[first : first + size], limit):
             return first
     return None
+
+
+def spread(values):
+    """The smallest, the largest and the spread: "(largest - smallest) as a percentage of the
+    smallest", in 0.001 %; "refused 9 0 where there is none to tell"."""
+    smallest, largest = min(values), max(values)
+    if smallest == 0:
+        raise Refused(NO_GROUP)
+    percentage = rounded(Fraction(largest - smallest, smallest) * 100, 3)
+    if percentage >= 2**64:
+        raise Refused(NO_GROUP)
+    return smallest, largest, percentage
 
 
 def mean(values):

@@ -5,6 +5,7 @@ from functools import partial
 
 import book
 import draw
+import group
 import live
 import proving
 import ranges
@@ -19,7 +20,7 @@ LONGEST = 524_288
 WHOLE = re.compile(rb"0|-?[1-9][0-9]*")
 BYTES = re.compile(rb"(?:[0-9a-f]{2})+")
 SINGLE = re.compile(rb"[0-9a-f]{8}")
-MOST_DIGITS = 11  # a sign and ten digits hold every operand type
+MOST_DIGITS = 20  # hold every operand type
 
 NO_BYTES = b"-"
 BAD_LINE = b"bad line"
@@ -41,6 +42,7 @@ def whole(lowest, highest, word):
 u8 = partial(whole, 0, 2**8 - 1)
 u16 = partial(whole, 0, 2**16 - 1)
 u32 = partial(whole, 0, 2**32 - 1)
+u64 = partial(whole, 0, 2**64 - 1)
 i16 = partial(whole, -(2**15), 2**15 - 1)
 
 
@@ -65,6 +67,16 @@ def single(word):
 
 
 SETTINGS = (u8, u16, u32, u32, u32, u32)
+
+
+class List:
+    """From one operand to `most` of one type."""
+
+    def __init__(self, read, most):
+        self.read, self.most = read, most
+
+    def types(self, count):
+        return (self.read,) * min(max(count, 1), self.most)
 
 
 def printed(value):
@@ -152,6 +164,10 @@ def answer_live(temperature, pressure):
     return ok(*live.live(temperature, pressure))
 
 
+def answer_spread(*values):
+    return ok(*group.spread(values))
+
+
 def answer_write(request, runs, first, *operands):
     *factors, buffer = operands
     try:
@@ -215,6 +231,7 @@ ENTRIES = {
     b"passes": ((*SETTINGS, octets), answer_passes),
     b"ticket": ((u32, u32, u16, u16, u16, u16, u32), answer_ticket),
     b"live": ((single, single), answer_live),
+    b"spread": (List(u64, 20), answer_spread),
     b"write": ((u32, u8, u8, *(u16,) * 5, octets), answer_write),
     b"read": ((octets,), answer_read),
 }
@@ -230,6 +247,8 @@ BOOK_ENTRIES = {
 
 
 def operands_of(types, words):
+    if isinstance(types, List):
+        types = types.types(len(words))
     if len(types) != len(words):
         raise BadLine
     return [read(word) for read, word in zip(types, words)]

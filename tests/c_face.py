@@ -19,6 +19,8 @@ from programs import Stopped, answers_of, is_silent
 ROOT = Path(__file__).resolve().parents[1]
 BUILT = ROOT / "target" / "c"
 LINE_PROGRAM = [str(ROOT / "tests" / "endakuro")]
+# Entries of the line program that the C face has not.
+OTHERS = {"spread"}
 RUN = str(ROOT / "tests" / "c" / "run")
 
 ONLY_HEADER = b"#include <endakuro.h>\n"
@@ -58,21 +60,24 @@ def build(name, source):
 
 
 def lines(count, seed):
-    """The line program's answers are what C must give; a line that it calls bad calls no entry, and is left out."""
+    """The line program's answers are what C must give; a line that it calls bad calls no entry, and is left out, as is an
+    entry that C has not."""
     program = build("lines", "tests/c/lines.c")
     asked = [line for line in cases(seed, count) if not is_silent(line)]
     told = answers_of(LINE_PROGRAM, b"\n".join(asked) + b"\n")
-    calls = [(line.removesuffix(b"\r"), answer) for line, answer in zip(asked, told, strict=True) if outcome(answer) != BAD]
+    answered = [(line.removesuffix(b"\r"), answer) for line, answer in zip(asked, told, strict=True)]
+    calls = [(line, answer) for line, answer in answered if outcome(answer) != BAD and entry_of(line) not in OTHERS]
     found = answers_of(program, b"\n".join(line for line, _ in calls) + b"\n")
     differences = [(line, a, b) for (line, a), b in zip(calls, found) if a != b]
     for line, expected, other in differences[:SHOWN]:
         print(f"{short(line)}\n  line program {short(expected)}\n  C            {short(other)}")
     reached = Counter((entry_of(line), outcome(answer)) for line, answer in calls)
-    missing = [f"{entry} {what}" for entry, answers in REACHES.items() for what in answers if not reached[entry, what]]
+    wanted = {entry: answers for entry, answers in REACHES.items() if entry not in OTHERS}
+    missing = [f"{entry} {what}" for entry, answers in wanted.items() for what in answers if not reached[entry, what]]
     if missing:
         print(f"never reached: {', '.join(missing)}")
     missed = abs(len(calls) - len(found))
-    print(f"C beside the line program: {len(calls)} calls of {len(REACHES)} entries; differences {len(differences) + missed}")
+    print(f"C beside the line program: {len(calls)} calls of {len(wanted)} entries; differences {len(differences) + missed}")
     return not differences and not missed and not missing
 
 

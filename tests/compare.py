@@ -35,6 +35,7 @@ REACHES = {
     "passes": (OK, 1, 3, 5, 2, 6),
     "ticket": (OK, 10, 11),
     "live": (OK, 12, 13),
+    "spread": (OK, 9),
     "write": (OK, 14, 22, 15),
     "read": (OK, 14, 15),
     "request": (OK, 20, 21, 22, 23, 24, 25),

@@ -3,11 +3,11 @@
 import random
 from itertools import chain, islice
 
-from . import books, draws, factors, grammar, provings, reports, singles, tickets
+from . import books, draws, factors, grammar, provings, reports, singles, spreads, tickets
 
 
 def aimed(rng):
-    for part in (factors, tickets, singles, reports, provings, draws, books, grammar):
+    for part in (factors, tickets, singles, reports, provings, draws, spreads, books, grammar):
         yield from part.aimed(rng)
 
 
@@ -19,6 +19,7 @@ def by_chance(rng):
         (10, tickets),
         (8, singles),
         (6, reports),
+        (6, spreads),
         (12, grammar),
     )
     weights = [weight for weight, _ in parts]

@@ -1,13 +1,13 @@
 """Cases of the grammar: operands at the ends of their types, malformed, missing and left over;
 damaged lines, wild bytes and long lines."""
 
-from . import books, draws, factors, provings, reports, singles, tickets
+from . import books, draws, factors, provings, reports, singles, spreads, tickets
 from .shapes import Draw, Fill, Job, Prover, Report, Run, Ticket, line
 
 LONGEST = 524_288
 
 NAMES = (
-    "cts cps cpl prove runs run draw fill passes ticket live write read"
+    "cts cps cpl prove runs run draw fill passes ticket live spread write read"
     " request withdraw take book load empty"
 ).split()
 
@@ -30,6 +30,7 @@ def examples():
         draw.passes,
         Ticket().line,
         line("live", "42928000", "42200000"),
+        line("spread", 9964, 9963, 9962),
         report.write,
         report.read,
         line("request", 1, 77),
@@ -85,6 +86,7 @@ MALFORMED = (
     b"4294967295",
     b"4294967296",
     b"9" * 19,
+    b"18446744073709551615",
     b"18446744073709551616",
     b"18446744073709551621",
     b"340282366920938463463374607431768211457",
@@ -199,6 +201,7 @@ def good_line(rng):
             tickets.by_chance,
             singles.by_chance,
             reports.by_chance,
+            spreads.by_chance,
             lambda of: of.choice(examples()),
         )
     )(rng)

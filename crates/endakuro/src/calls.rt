@@ -5,6 +5,7 @@ use draw::Counted;
 use draw::FillAnswer;
 use draw::WaterDraw;
 use factors::Factor;
+use group::Spread;
 use lines::answers::add_bytes;
 use lines::answers::add_numbers;
 use lines::answers::refuse;
@@ -284,6 +285,29 @@ fn answer_lent(entry: usize, line: &[u8], room: &mut [u8], out: &mut [u8]) -> us
     answer_records(entry, line, &room[..count], out)
 }
 
+fn say_spread(values: &[u64], out: &mut [u8]) -> usize {
+    let found = group::find_spread(values);
+    match found {
+        Spread::Worked(extent) => say_ok(&[extent.smallest, extent.largest, extent.spread], out),
+        Spread::Refused(refusal) => refuse(refusal, out),
+    }
+}
+
+// As many values as the line has operands: at most 20, by its form.
+fn answer_spread(line: &[u8], out: &mut [u8]) -> usize {
+    let mut values = [0u64; 20];
+    let mut i = 0;
+    while i < 20 {
+        values[i] = operands::u64_at(line, i + 1);
+        i += 1;
+    }
+    let count = find_last(words::count_words(line));
+    if count <= 20 {
+        return say_spread(&values[..count], out);
+    }
+    answers::say_bad(out)
+}
+
 fn answer_numbers(entry: usize, line: &[u8], out: &mut [u8]) -> usize {
     match entry {
         14 => answer_cts(line, out),
@@ -291,6 +315,7 @@ fn answer_numbers(entry: usize, line: &[u8], out: &mut [u8]) -> usize {
         16 => answer_cpl(line, out),
         17 => answer_ticket(line, out),
         18 => answer_live(line, out),
+        19 => answer_spread(line, out),
         _ => answers::say_bad(out),
     }
 }

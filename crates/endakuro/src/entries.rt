@@ -2,28 +2,34 @@
 use lines::operands::has_form;
 
 // The entry that a line names, by its place in the table: the names, and the kinds of each entry's words
-// in the same order, the name's own (n) first. 19 where the name is unknown or a word is not of its kind.
+// in the same order, the name's own (n) first. 20 where the name is unknown or a word is not of its kind.
 pub(crate) fn find_entry(line: &[u8]) -> usize {
     let names =
-        b"request withdraw take load empty book prove write runs run read draw fill passes cts cps cpl ticket live";
+        b"request withdraw take load empty book prove write runs run read draw fill passes cts cps cpl ticket live spread";
     let forms =
-        b"nbw nbw n nbbbbbwwwwwwwwwwwwwwwwwwwwwwwwwwwwwwwwwwwwwwwwwwwwwwwwwwwwwwwwwwwwwwww n n nwbhwwwwwhxx nwbbhhhhhx nbhwwwwwhx nbhwwwwwx nx nbhwwwwx nbhx nbhwwwwx nsbhp nhwwwp nhhp nwwhhhhw nff";
+        b"nbw nbw n nbbbbbwwwwwwwwwwwwwwwwwwwwwwwwwwwwwwwwwwwwwwwwwwwwwwwwwwwwwwwwwwwwwwww n n nwbhwwwwwhxx nwbbhhhhhx nbhwwwwwhx nbhwwwwwx nx nbhwwwwx nbhx nbhwwwwx nsbhp nhwwwp nhhp nwwhhhhw nff ndddddddddddddddddddd";
     let entry = find_name(words::word(line, 0), names);
-    if entry < 19 {
-        if has_form(line, words::word(forms, entry)) {
+    if entry < 20 {
+        let form = words::word(forms, entry);
+        if has_form(line, form, find_least(entry, form.len())) {
             return entry;
         }
     }
-    19
+    20
+}
+
+// A spread is of one value or more, up to as many as its form has; every other line has all its words.
+fn find_least(entry: usize, all: usize) -> usize {
+    if entry == 19 { 2 } else { all }
 }
 
 fn find_name(name: &[u8], names: &[u8]) -> usize {
     let mut i = 0;
-    while i < 19 {
+    while i < 20 {
         if check::same(name, words::word(names, i)) {
             return i;
         }
         i += 1;
     }
-    19
+    20
 }

@@ -20,7 +20,12 @@ pub(crate) fn u16_at(line: &[u8], n: usize) -> u16 {
 }
 
 pub(crate) fn u32_at(line: &[u8], n: usize) -> u32 {
-    number_at(line, n, 4294967295)
+    let value = number_at(line, n, 4294967295);
+    if value <= 4294967295 { value as u32 } else { 0 }
+}
+
+pub(crate) fn u64_at(line: &[u8], n: usize) -> u64 {
+    number_at(line, n, 18446744073709551615)
 }
 
 pub(crate) fn i16_at(line: &[u8], n: usize) -> i16 {

@@ -1,13 +1,15 @@
 -- The words of a line by their kinds.
 use mathlib.Core.Path.{_≡_, refl, sym}
-use mathlib.Core.Bool.{Bool, true, false, not}
+use mathlib.Core.Bool.{Bool, true, false, not, _&&_}
 use mathlib.Core.List.{List}
 use Prim.Native.Nat.{ℕ, _+_, _≤_, _<_}
 use native.Mathlib.Numerals.{add-one}
-use lib.ListN.{length, getD, drop, drop-of-length-le}
+use borrow.Author.Tests.{lt-leb, le-leb}
+use lib.Dec.{leb}
+use lib.ListN.{length, getD, take, drop, drop-of-length-le}
 use lib.Seq.{drop-cons}
-use Rattle.words.specs.Words.{wordOf}
-use Rattle.lines.specs.Operands.{isKind, areKinds}
+use Rattle.words.specs.Words.{wordOf, wordCount}
+use Rattle.lines.specs.Operands.{isKind, areKinds, hasForm}
 
 -- a test that the code negates
 pub not-true : (b : Bool) → not b ≡ true → b ≡ false
@@ -30,3 +32,13 @@ module _ (line kinds : List ℕ) (i : ℕ) where
   pub kinds-end : length kinds ≤ i → areKinds i line (drop i kinds) ≡ true
   unfolding areKinds
   kinds-end h = rw (drop-of-length-le kinds {i = i} h)
+
+-- so many words of a line, held to the kinds
+module _ {count : ℕ} (least : ℕ) (line kinds : List ℕ) (e : count ≡ wordCount line) where
+  pub too-many : length kinds < count → false ≡ hasForm least line kinds
+  unfolding hasForm
+  too-many h = rw (sym e, lt-leb count (length kinds) h)
+
+  pub not-too-many : count ≤ length kinds → (leb least count && areKinds 0 line (take count kinds)) ≡ hasForm least line kinds
+  unfolding hasForm
+  not-too-many h = rw (sym e, le-leb count (length kinds) h)

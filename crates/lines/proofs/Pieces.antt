@@ -6,24 +6,28 @@ use native.Mathlib.Numerals.{add-one}
 use lib.ListN.{length, getD, drop, drop-of-length-le}
 use lib.Seq.{drop-cons}
 use Rattle.octets.specs.Octets.{writtenAt}
-use Rattle.refusals.specs.Table.{givenBack}
-use Rattle.refusals.specs.declared.GivenBack.{GivenBack}
-use Rattle.refusals.specs.declared.Refusal.{Refusal}
 use Rattle.words.specs.Written.{placeAfter}
-use Rattle.lines.specs.Answers.{placeAll, writtenAll, numbersSpelt, refusedSpelt}
+use Rattle.lines.specs.Answers.{placeAll, writtenAll, numbersSpelt}
 
-abbrev refusedWord : List ℕ
-refusedWord = 114 ∷ 101 ∷ 102 ∷ 117 ∷ 115 ∷ 101 ∷ 100 ∷ []
+-- pieces behind the first one
+module _ (to : List ℕ) (at : ℕ) (piece : List ℕ) {rest wanted : List (List ℕ)} {next : ℕ} {left : List ℕ} (p : next ≡ placeAfter to at piece) (l : left ≡ writtenAt to at piece) (e : rest ≡ wanted) where
+  pub place-behind : placeAll left next rest ≡ placeAll to at (piece ∷ wanted)
+  unfolding placeAll
+  place-behind = rw (p, l, e)
 
--- 'refused', the number and the record
-module _ (to : List ℕ) (refusal : Refusal) (given : GivenBack) (next : ℕ) (left : List ℕ) (g : given ≡ givenBack refusal) (p : next ≡ placeAfter to 0 refusedWord) (l : left ≡ writtenAt to 0 refusedWord) where
-  pub refused-place : placeAll left next (numbersSpelt (given .number ∷ given .at ∷ [])) ≡ placeAll to 0 (refusedSpelt refusal)
-  unfolding placeAll refusedSpelt
-  refused-place = rw (p, l, g)
+  pub left-behind : writtenAll left next rest ≡ writtenAll to at (piece ∷ wanted)
+  unfolding writtenAll
+  left-behind = rw (p, l, e)
 
-  pub refused-left : writtenAll left next (numbersSpelt (given .number ∷ given .at ∷ [])) ≡ writtenAll to 0 (refusedSpelt refusal)
-  unfolding writtenAll refusedSpelt
-  refused-left = rw (p, l, g)
+-- two pieces
+module _ (to : List ℕ) (at : ℕ) (first second : List ℕ) {next : ℕ} {left : List ℕ} (p : next ≡ placeAfter to at first) (l : left ≡ writtenAt to at first) where
+  pub place-two : placeAfter left next second ≡ placeAll to at (first ∷ second ∷ [])
+  unfolding placeAll
+  place-two = rw (p, l)
+
+  pub left-two : writtenAt left next second ≡ writtenAll to at (first ∷ second ∷ [])
+  unfolding writtenAll
+  left-two = rw (p, l)
 
 -- one value more of the values from i on
 module _ (to : List ℕ) (at : ℕ) (ns : List ℕ) (i next : ℕ) (left : List ℕ) (h : i < length ns) (p : next ≡ placeAll to at (numbersSpelt (getD ns i 0 ∷ []))) (l : left ≡ writtenAll to at (numbersSpelt (getD ns i 0 ∷ []))) where

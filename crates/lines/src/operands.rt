@@ -39,6 +39,7 @@ fn is_kind(word: &[u8], kind: u8) -> bool
         b'b' => is_number(numerals::read_number(word, 255)),
         b'h' => is_number(numerals::read_number(word, 65535)),
         b'w' => is_number(numerals::read_number(word, 4294967295)),
+        b'd' => is_number(numerals::read_number(word, 18446744073709551615)),
         b's' => is_signed(numerals::read_signed(word)),
         b'p' => is_places(word),
         b'x' => hex::are_bytes(word),
@@ -60,14 +61,18 @@ fn are_kinds(line: &[u8], kinds: &[u8]) -> bool
     true
 }
 
-// As many words as kinds, each of its kind.
-pub fn has_form(line: &[u8], kinds: &[u8]) -> bool
-    ensures { λ r. ⌜ r ≡ hasForm (now (line .entry)) (now (kinds .entry)) ⌝ }
+// Each word of its kind: at least so many words, and at most as many as kinds.
+pub fn has_form(line: &[u8], kinds: &[u8], least: usize) -> bool
+    ensures { λ r. ⌜ r ≡ hasForm least (now (line .entry)) (now (kinds .entry)) ⌝ }
 {
-    (words::count_words(line) == kinds.len()) & are_kinds(line, kinds)
+    let count = words::count_words(line);
+    if kinds.len() < count {
+        return false;
+    }
+    (least <= count) & are_kinds(line, &kinds[..count])
 }
 
-fn or_zero(number: Number) -> u32
+fn or_zero(number: Number) -> u64
     ensures { λ r. ⌜ r ≡ orZero (told number) ⌝ }
 {
     match number {
@@ -76,7 +81,7 @@ fn or_zero(number: Number) -> u32
     }
 }
 
-pub fn number_at(line: &[u8], n: usize, most: u32) -> u32
+pub fn number_at(line: &[u8], n: usize, most: u64) -> u64
     ensures { λ r. ⌜ r ≡ numberAt most n (now (line .entry)) ⌝ }
 {
     or_zero(numerals::read_number(words::word(line, n), most))

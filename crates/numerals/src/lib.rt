@@ -11,7 +11,7 @@ ghost use Rattle.numerals.specs.Printed.{placeAfterSigned, writtenSigned
 use octets::byte_at;
 
 pub enum Number {
-    Value(u32),
+    Value(u64),
     Malformed,
 }
 
@@ -39,8 +39,9 @@ fn is_ill_led(word: &[u8]) -> bool
     (word.len() == 0) | ((1 < word.len()) & (byte_at(word, 0) == 48))
 }
 
-// A whole number without leading zeros, up to the most that its operand holds.
-pub fn read_number(word: &[u8], most: u32) -> Number
+// A whole number without leading zeros, up to the most that its operand holds. Whether one digit more
+// still is at most that is asked before it is added, since the sum may pass 64 bits.
+pub fn read_number(word: &[u8], most: u64) -> Number
     ensures { λ r. ⌜ told r ≡ numberOf most (now (word .entry)) ⌝ }
 {
     if is_ill_led(word) {
@@ -53,13 +54,16 @@ pub fn read_number(word: &[u8], most: u32) -> Number
         if 9 < digit {
             return Number::Malformed;
         }
-        value = 10 * value + digit;
-        if (most as u64) < value {
+        if most / 10 < value {
             return Number::Malformed;
         }
+        if most - 10 * value < digit {
+            return Number::Malformed;
+        }
+        value = 10 * value + digit;
         i += 1;
     }
-    Number::Value(value as u32)
+    Number::Value(value)
 }
 
 fn pass_first<'a>(word: &'a [u8]) -> &'a [u8]
@@ -73,7 +77,7 @@ fn pass_first<'a>(word: &'a [u8]) -> &'a [u8]
 }
 
 // No `-` stands before zero, and -32,768 is the least of 16 bits.
-fn negate(size: u32) -> Signed
+fn negate(size: u64) -> Signed
     requires { ⌜ size ≤ 32768 ⌝ }
     ensures { λ r. ⌜ toldSigned r ≡ negated (some size) ⌝ }
 {
