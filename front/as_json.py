@@ -75,15 +75,14 @@ def prover(own):
 
 
 def group(own, unit, accepted):
-    """Runs or passes in a row; `spread` is rounded, `within` the tightest limit that they meet, null where not told."""
+    """Runs or passes in a row; `spread` is rounded."""
     return {
         "first": own.numbers[0],
         "last": own.numbers[-1],
         "accepted": accepted,
         "largest": figure(own.largest, unit),
         "smallest": figure(own.smallest, unit),
-        "spread": None if own.spread is None else figure(own.spread, SPREAD),
-        "within": None if own.within is None else figure(own.within, fields.LIMIT.unit),
+        "spread": figure(own.spread, SPREAD),
     }
 
 

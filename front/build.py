@@ -12,7 +12,8 @@ NAME = "endakuro"
 BINARY = ROOT / "target" / "bin" / NAME
 # When the sources were last found proved; rt leaves the program's own date as it is when nothing changed.
 STAMP = ROOT / "target" / "front-checked"
-# rt starts this many checks together and waits for the last of them: more than most machines have processors, so that none stands idle.
+# rt starts this many checks together and waits for the last of them: more than most machines have processors, so that
+# none stands idle.
 CHECKS = "8"
 
 

@@ -75,9 +75,6 @@ def passes_table(worked):
 
 def repeatability(worked):
     group, limit = worked.group, fields.DRAW_LIMIT
-    if not group:
-        told = f"No three consecutive passes lie within {LIMIT.text(limit)} of the smallest: no base volume."
-        return Notes([told])
     span = f"{group.numbers[0]} to {group.numbers[-1]} of {len(worked.passes)}"
     if worked.refusal:
         named = ("Best three", f"passes {span}: the three in a row that lie nearest together")

@@ -1,6 +1,6 @@
 """The line program's figures of a job, by name. Each is asked; none is worked out here."""
 
-from dataclasses import dataclass, replace
+from dataclasses import dataclass
 
 from . import fields
 from .program import hexed
@@ -32,25 +32,17 @@ class Outcome:
 
 @dataclass(frozen=True)
 class Group:
-    """Runs or passes in a row. `spread` is the program's, in 0.001 % of the smallest; `within` the tightest limit that
-    they meet. Either is None where the program does not tell it."""
+    """Runs or passes in a row. `spread` is in 0.001 % of the smallest; all figures are the program's."""
 
     first: int
     values: tuple
-    spread: int | None = None
-    within: int | None = None
+    smallest: int
+    largest: int
+    spread: int
 
     @property
     def numbers(self):
         return range(self.first, self.first + len(self.values))
-
-    @property
-    def largest(self):
-        return max(self.values)
-
-    @property
-    def smallest(self):
-        return min(self.values)
 
 
 def prove(job, program):
@@ -61,59 +53,15 @@ def prove(job, program):
     return Outcome(factor, first, runs, tuple(five), bytes.fromhex(record))
 
 
-def spread(values, program):
-    """(largest - smallest) as a percentage of the smallest, in 0.001 %, rounded; None where the entry is not there."""
-    kind, *told = program.answer("spread", *values)
-    return int(told[2]) if kind == "ok" else None
+def group_of(first, values, program):
+    """These runs or passes, from the number of the first, with their spread."""
+    return Group(first, tuple(values), *program.numbers("spread", *values))
 
 
-def tightest(job, group, program):
-    """The smallest limit at which these five would be accepted, found by asking; None where no limit is wide enough."""
-    five = hexed(b"".join(job.runs[number - 1].record for number in group.numbers))
-
-    def meets(limit):
-        return program.ask("runs", *job.prover.words, job.k_factor, limit, five) == [five]
-
-    low, high = fields.LIMIT.low, fields.LIMIT.high
-    if not meets(high):
-        return None
-    while low < high:
-        middle = (low + high) // 2
-        low, high = (low, middle) if meets(middle) else (middle + 1, high)
-    return high
-
-
-def five_of(job, first, values, program):
-    """Five runs with their spread, or with the limit that they meet where the program does not tell it."""
-    group = Group(first, tuple(values), spread(values, program))
-    return group if group.spread is not None else replace(group, within=tightest(job, group, program))
-
-
-def best_five(job, runs, program):
-    """The five in a row that lie nearest together, the first of them where several do."""
-    factors = [own["factor"] for own in runs]
-    size = fields.GROUP_OF_RUNS
-    starts = range(len(factors) - size + 1)
-    groups = [five_of(job, at + 1, factors[at : at + size], program) for at in starts]
-    return min(groups, key=nearness)
-
-
-def nearness(group):
-    """What groups are ordered by; beyond every limit is farther than all."""
-    told = group.within if group.spread is None else group.spread
-    return (told is None, told or 0)
-
-
-def three_of(passes, first, program):
-    """Three passes in a row with their spread."""
-    volumes = tuple(each["volume"] for each in passes[first - 1 : first - 1 + fields.GROUP_OF_PASSES])
-    return Group(first, volumes, spread(volumes, program))
-
-
-def best_three(passes, program):
-    """The three passes in a row that lie nearest together; None where the program tells no spread."""
-    groups = [three_of(passes, at + 1, program) for at in range(len(passes) - fields.GROUP_OF_PASSES + 1)]
-    return min(groups, key=nearness) if groups[0].spread is not None else None
+def best_of(values, size, program):
+    """So many in a row that lie nearest together, the first of them where several do."""
+    groups = [group_of(at + 1, values[at : at + size], program) for at in range(len(values) - size + 1)]
+    return min(groups, key=lambda group: group.spread)
 
 
 def of_runs(job, program):
@@ -128,13 +76,18 @@ def of_fills(job, program):
     return [dict(zip(OF_A_FILL, program.numbers("fill", *metal, hexed(fill.record)))) for fill in job.fills]
 
 
+def volumes_of(job, records, program):
+    """The volume of each pass of such fills."""
+    _, *volumes = program.numbers("passes", *job.prover.words, hexed(records))
+    return volumes
+
+
 def of_passes(job, program):
     """Each pass: its fills' sum, its CPS and CPL, its volume."""
-    settings, pipe = job.prover.words, job.prover.pipe.values()
-    _, *volumes = program.numbers("passes", *settings, hexed(job.records))
+    pipe, volumes = job.prover.pipe.values(), volumes_of(job, job.records, program)
     # At 0 psi both factors are 1, so that the passes are the sums of their fills.
     unpressed = b"".join(FILL_LAYOUT.pack({**fill.counts, "pressure": 0}) for fill in job.fills)
-    _, *sums = program.numbers("passes", *settings, hexed(unpressed))
+    sums = volumes_of(job, unpressed, program)
     pressures = {fill.counts["pass"]: fill.counts["pressure"] for fill in job.fills}
     return [
         {

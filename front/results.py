@@ -3,6 +3,7 @@
 from hashlib import sha256
 
 from . import faults, fields, figures, jobs, version
+from . import worked as works
 from .badfile import BadFile
 from .fields import LIMIT
 from .hints import plain
@@ -40,7 +41,8 @@ def of_job(path, job, program, extras):
         return row | {"outcome": ACCEPTED} | ANSWERS[job.kind](job, program)
     except Refused as refused:
         told = faults.explain(job, refused.refusal, program)
-        return row | {"outcome": REFUSED, "refusal": told.number, "at record": told.record, "words": told.line}
+        row |= {"outcome": REFUSED, "refusal": told.number, "at record": told.record, "words": told.line}
+        return row | (nearest(job, program) if told.number == works.NO_GROUP else {})
 
 
 def digest_of(path):
@@ -72,17 +74,19 @@ def of_proving(job):
 
 
 def spread_of(group):
-    """A spread, or the tightest limit that is met where the program does not tell it."""
-    if group.spread is not None:
-        return shown(group.spread, SPREAD.places)
-    return f"within {shown(group.within, LIMIT.unit.places)}" if group.within is not None else ""
+    return {"spread (%)": shown(group.spread, SPREAD.places)}
+
+
+def nearest(job, program):
+    """Of a job in which no group agrees: the spread of the one that came nearest."""
+    return spread_of(works.work(job, program).group)
 
 
 def proved(job, program):
     outcome = figures.prove(job, program)
     return {
         "meter factor": shown(outcome.factor, 4, False),
-        "spread (%)": spread_of(figures.five_of(job, outcome.first, outcome.five, program)),
+        **spread_of(figures.group_of(outcome.first, outcome.five, program)),
         "first used": outcome.first,
         "out of": outcome.runs,
         # Bytes set apart: a spreadsheet would take 64 digits in a row for one number.
@@ -92,10 +96,11 @@ def proved(job, program):
 
 def drawn(job, program):
     cubic_inches, barrels, first = figures.draw(job, program)
+    three = figures.volumes_of(job, job.records, program)[first - 1 :][: fields.GROUP_OF_PASSES]
     return {
         "base volume (bbl)": shown(barrels, 4, False),
         "base volume (in³)": shown(cubic_inches, 2, False),
-        "spread (%)": spread_of(figures.three_of(figures.of_passes(job, program), first, program)),
+        **spread_of(figures.group_of(first, three, program)),
         "first used": first,
         "out of": job.fills[-1].counts["pass"],
     }

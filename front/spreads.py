@@ -7,13 +7,8 @@ SPREAD = Unit("%", 3)
 
 
 def against(group, limit):
-    """The spread beside the limit: as the program tells it, else the tightest limit that the group meets."""
-    bound = LIMIT.text(limit)
-    if group.spread is not None:
-        return f"{SPREAD.text(group.spread)} (rounded) of the smallest; limit {bound}"
-    if group.within is not None:
-        return f"within {LIMIT.text(group.within)} of the smallest; limit {bound}"
-    return f"limit {bound} of the smallest"
+    """The spread beside the limit."""
+    return f"{SPREAD.text(group.spread)} (rounded) of the smallest; limit {LIMIT.text(limit)}"
 
 
 def rows(group, limit, met):

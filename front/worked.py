@@ -2,7 +2,7 @@
 
 from dataclasses import dataclass
 
-from . import faults, figures
+from . import faults, fields, figures
 from .program import Refused
 from .refusals import Explained
 
@@ -38,10 +38,7 @@ def prove(job, program):
     if refusal and refusal.number != NO_GROUP:
         return Worked(job, refusal=refusal)
     runs = figures.of_runs(job, program)
-    if answer:
-        group = figures.five_of(job, answer.first, answer.five, program)
-    else:
-        group = figures.best_five(job, runs, program)
+    group = group_of([own["factor"] for own in runs], fields.GROUP_OF_RUNS, answer and answer.first, program)
     return Worked(job, answer, refusal, runs=runs, group=group)
 
 
@@ -50,8 +47,15 @@ def draw(job, program):
     if refusal and refusal.number != NO_GROUP:
         return Worked(job, refusal=refusal)
     fills, passes = figures.of_fills(job, program), figures.of_passes(job, program)
-    group = figures.three_of(passes, answer[2], program) if answer else figures.best_three(passes, program)
+    group = group_of([own["volume"] for own in passes], fields.GROUP_OF_PASSES, answer and answer[2], program)
     return Worked(job, answer, refusal, fills=fills, passes=passes, group=group)
+
+
+def group_of(values, size, first, program):
+    """The accepted ones, from the number of the first on; of a refused job those that came nearest to it."""
+    if not first:
+        return figures.best_of(values, size, program)
+    return figures.group_of(first, values[first - 1 : first - 1 + size], program)
 
 
 def ticket(job, program):

@@ -13,8 +13,7 @@ from pathlib import Path
 import jobtexts
 from harness import LAUNCHER, ROOT, Tally, at_terminal, run
 
-from front import figures, jobs, spreads, version
-from front.program import Program
+from front import version
 from front.results import COLUMNS
 
 MANY = 3000
@@ -65,28 +64,25 @@ def mixed(tally, folder):
 
 def figures_of(tally, rows):
     """Each figure in its column, and none where a job has none."""
-    with Program() as program:
-        job = jobs.read(str(EXAMPLES / "second-five.toml"))
-        outcome = figures.prove(job, program)
-        group = figures.five_of(job, outcome.first, outcome.five, program)
     record = (EXAMPLES / "report-7.record").read_bytes().hex(" ")
     for name, expected in (
         ("second-five.toml", {"meter factor": "1.0002", "first used": "2", "out of": "6", "request": "7",
          "K factor (pulses/bbl)": "10000.000", "base volume (bbl)": "20.0000", "limit (%)": "0.05",
-         "report record": record, "gross (bbl)": ""}),
+         "spread (%)": "0.050", "report record": record, "gross (bbl)": ""}),
         ("water-draw.toml", {"base volume (bbl)": "2.1832", "base volume (in³)": "21181.32", "first used": "1",
-         "out of": "3", "limit (%)": "0.02", "meter factor": ""}),
+         "out of": "3", "limit (%)": "0.02", "spread (%)": "0.012", "meter factor": ""}),
         ("ticket.toml", {"gross (bbl)": "495.65", "net (bbl)": "493.17", "meter factor": "1.0002", "request": ""}),
         ("live.toml", {"temperature (°F)": "73.3", "pressure (psi)": "40"}),
         ("bad.toml", {"outcome": "bad file", "job": "",
          "words": "line 1: run: expected [[run]], one table for each run, found a whole number; "
          "the table [meter] is missing; request: missing: expected the request number, 1 to 4,294,967,295; "
          "the table [prover] is missing"}),
-        ("prove-09-runs-drift.toml", {"outcome": "refused", "meter factor": "", "base volume (bbl)": "20.0000"}),
+        ("prove-09-runs-drift.toml", {"outcome": "refused", "meter factor": "", "base volume (bbl)": "20.0000",
+         "spread (%)": "0.090"}),
+        ("draw-09-passes-drift.toml", {"outcome": "refused", "base volume (bbl)": "", "spread (%)": "0.052"}),
+        ("prove-05-too-hot.toml", {"outcome": "refused", "spread (%)": ""}),
     ):  # fmt: skip
         tally.same({column: rows[name][column] for column in expected}, expected, name)
-    shown = rows["second-five.toml"]["spread (%)"]
-    tally.check(shown and shown in spreads.against(group, job.limit), f"spread: {shown!r}")
 
 
 def headings(tally, folder):

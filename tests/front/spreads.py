@@ -1,4 +1,4 @@
-"""The spread on pages: as the line program tells it, beside the exact test; of a refused job that of the best group."""
+"""The spread on pages: rounded, beside the exact test; of a refused job that of the best group."""
 
 import tempfile
 from pathlib import Path
@@ -19,16 +19,6 @@ def exact(values):
     """(largest - smallest) as a percentage of the smallest, in 0.001 %, halves up."""
     high, low = max(values), min(values)
     return (2 * (high - low) * 100_000 + low) // (2 * low)
-
-
-class Telling(Program):
-    """The line program; `spread` is answered here, as docs/LINES.md has it."""
-
-    def answer(self, *words):
-        if words[0] != "spread":
-            return super().answer(*words)
-        values = [int(word) for word in words[1:]]
-        return ["ok", str(min(values)), str(max(values)), str(exact(values))]
 
 
 def groups_of(values, size):
@@ -57,27 +47,11 @@ def told(tally, name, worked):
     tally.same([line for line in head.splitlines() if "best" in line], [best] * bool(worked.refusal), f"{name}: head")
 
 
-def within(tally, folder, program):
-    """Without the entry: the tightest limit that the five meet, found by asking; a draw has its limit alone."""
-    for number, given in enumerate(jobtexts.days(JOBS, 11)):
-        path = folder / "job.toml"
-        path.write_text(jobtexts.proving_text(given))
-        worked = works.work(jobs.read(str(path)), program)
-        if worked.has_figures and worked.group.spread is None and worked.group.within is not None:
-            high, low, tightest = worked.group.largest, worked.group.smallest, worked.group.within
-            tally.check((high - low) * 10_000 <= tightest * low, f"job {number}: {tightest} is not met")
-            missed = tightest == 1 or (high - low) * 10_000 > (tightest - 1) * low
-            tally.check(missed, f"job {number}: {tightest} is not the tightest")
-            lines = page.text(pages.build(worked))
-            spread = f"within {shown(tightest, 2)} % of the smallest; limit"
-            tally.holds(value(lines, "Spread"), spread, f"job {number}")
-
-
 def test():
     tally = Tally("spreads")
     names = ("prove-09-runs-drift", "draw-09-passes-drift")
     refused = [ROOT / "examples" / "refusals" / f"{name}.toml" for name in names]
-    with tempfile.TemporaryDirectory() as folder, Telling() as program:
+    with tempfile.TemporaryDirectory() as folder, Program() as program:
         texts = [path.read_text() for path in refused]
         texts += [*map(jobtexts.proving_text, jobtexts.days(JOBS, 9))]
         texts += [*map(jobtexts.draw_text, jobtexts.draws(JOBS, 10))]
@@ -87,6 +61,4 @@ def test():
             worked = works.work(jobs.read(str(path)), program)
             if worked.has_figures:
                 told(tally, f"job {number}", worked)
-        with Program() as plain:
-            within(tally, Path(folder), plain)
     return tally

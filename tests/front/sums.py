@@ -13,7 +13,6 @@ KNOWN = {
     ("build", "is_current"): "paths",
     ("entry_files", "tables"): "paths",
     ("fields", ""): "what a place of 1, 2 or 4 bytes holds",
-    ("figures", "tightest"): "halving the limits to ask for",
     ("page", "grid"): "widths of columns",
     ("rework", "rework"): "how many workers",
     ("rework", "summary"): "jobs counted",
