@@ -13,6 +13,8 @@ pub mod GrammarOutcome
 pub mod OneOutcomeC
 pub mod InPlace
 pub mod InPlaceC
+pub mod FlatEndings
 pub mod Flattened
+pub mod EntriesC
 pub mod Sessions
 pub mod Demand3

@@ -15,3 +15,6 @@ pub mod InPlaceC
 pub mod Sessions
 pub mod Demand3
 pub mod Formulas
+pub mod FlatEnding
+pub mod EntriesC
+pub mod Flattened

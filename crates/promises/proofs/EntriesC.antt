@@ -1,0 +1,100 @@
+-- Demand 1 of the C face's contracts: each answer is its meaning flattened, and the meaning ends as the demand says.
+use mathlib.Core.Path.{_≡_, refl, ap, _∙_}
+use mathlib.Core.List.{List, [], _∷_}
+use Prim.Native.Nat.{ℕ, _*_}
+use lib.ListN.{length, take, drop, replicate}
+use Rattle.refusals.specs.Told.{Told, done, refused, leftBy}
+use Rattle.exact.specs.Quotient.{quotientOf}
+use Rattle.octets.specs.Lists.{isOneOf}
+use Rattle.octets.specs.Records.{recordsIn, zerosAfter}
+use Rattle.factors.specs.Metal.{metalBy}
+use Rattle.run.specs.Record.{runSize}
+use Rattle.factors.specs.declared.Prover.{Prover}
+use Rattle.proving.specs.Job.{foundOf, acceptedBy, acceptedOf}
+use Rattle.draw.specs.Passes.{volumesOf}
+use Rattle.draw.specs.Answers.{passesOf, heldFor}
+use Rattle.api.specs.Given.{pipeBy, liquidBy, proverBy, factorsBy, ticketBy}
+use Rattle.api.specs.Flat.{partOf, flatPasses, noReport, noFigures, noFill, noBase, noVolumes, noReading, noHandout}
+use Rattle.api.specs.declared.jobs.EndakuroPart.{EndakuroPart}
+use Rattle.api.specs.declared.quotients.EndakuroQuotient.{EndakuroQuotient}
+use Rattle.api.specs.declared.water.EndakuroPasses.{EndakuroPasses}
+use Rattle.promises.specs.Arguments.{first, second, third, fourth, fifth, sixth}
+use Rattle.promises.specs.FlatEnding.{FlatEnds, byKind, passesIn}
+use Rattle.promises.specs.EntriesC.{EntriesC}
+use Rattle.promises.proofs.FlatEndings.{flat-ends, flat-leaves, done-at-zero, refused-at-other, factor-back, report-back, run-back, fill-back, passes-back, volumes-back, draw-back, ticket-back, live-back, change-back, take-back, quotient-back, no-quotient}
+use Rattle.promises.proofs.Demand1.{cts-ends, cps-ends, cpl-ends, shown-ends, job-ends, write-ends, read-ends, fill-ends, passes-end, draw-ends, ticket-ends, live-ends, request-ends, withdrawal-ends, take-ends}
+use Rattle.promises.proofs.Demand1.{left-as-found, request-leaves-book, withdrawal-leaves-book, take-leaves-book}
+
+-- start and length in the lent records are the accepted runs
+part-accepted : (t : Told ℕ) (s : List ℕ) → take (partOf t .length) (drop (partOf t .start) s) ≡ acceptedBy runSize t s
+part-accepted (done at) s = refl
+part-accepted (refused number at) s = refl
+
+part-is-accepted : (prover : Prover) (k limit : ℕ) (s : List ℕ) → take (partOf (foundOf prover k limit s) .length) (drop (partOf (foundOf prover k limit s) .start) s) ≡ acceptedOf prover k limit s
+unfolding acceptedOf
+part-is-accepted prover k limit s = part-accepted (foundOf prover k limit s) s
+
+-- the passes: their count, and the volumes that stand beside it, by what is told
+module _ (prover : Prover) (s : List ℕ) where
+  passes-flat : {r : EndakuroPasses} → r ≡ flatPasses (passesOf prover s) (heldFor prover s) → FlatEnds (1 ∷ 3 ∷ 5 ∷ 2 ∷ 6 ∷ []) 1 (recordsIn 32 s) 0 (passesIn r) (passesOf prover s)
+  unfolding isOneOf
+  passes-flat is = flat-ends refl 0 (passes-back (heldFor prover s)) is (passes-end prover s)
+
+  passes-held : {r : EndakuroPasses} → r ≡ flatPasses (passesOf prover s) (heldFor prover s) → r .volumes ≡ heldFor prover s
+  passes-held = volumes-back (passesOf prover s) (heldFor prover s)
+
+  held-when-done : {count : ℕ} → passesOf prover s ≡ done count → heldFor prover s ≡ zerosAfter 20 (volumesOf prover s)
+  unfolding heldFor
+  held-when-done is = ap (λ (t : Told ℕ). zerosAfter 20 (leftBy t (λ count. volumesOf prover s) [])) is
+
+  held-when-refused : {number at : ℕ} → passesOf prover s ≡ refused number at → heldFor prover s ≡ replicate 20 0
+  unfolding heldFor zerosAfter
+  held-when-refused is = ap (λ (t : Told ℕ). zerosAfter 20 (leftBy t (λ count. volumesOf prover s) [])) is
+
+-- a quotient's two fields
+kind-of : {r q : EndakuroQuotient} → r ≡ q → r .kind ≡ q .kind
+kind-of is = ap (λ (f : EndakuroQuotient). f .kind) is
+
+value-of : {r q : EndakuroQuotient} → r ≡ q → r .value ≡ q .value
+value-of is = ap (λ (f : EndakuroQuotient). f .value) is
+
+pub entries-c : EntriesC
+unfolding isOneOf
+entries-c =
+    record {
+      cts-four-entry = λ κ a r x p. flat-ends refl 0 factor-back p (cts-ends 4 (metalBy (second a) (third a)) (first a));
+      cts-six-entry = λ κ a r x p. flat-ends refl 0 factor-back p (cts-ends 6 (metalBy (second a) (third a)) (first a));
+      cps-four-entry = λ κ a r x p. flat-ends refl 0 factor-back p (cps-ends 4 (pipeBy (second a) (third a) (fourth a)) (first a));
+      cps-six-entry = λ κ a r x p. flat-ends refl 0 factor-back p (cps-ends 6 (pipeBy (second a) (third a) (fourth a)) (first a));
+      cpl-four-entry = λ κ a r x p. flat-ends refl 0 factor-back p (cpl-ends 4 (liquidBy (first a) (second a)));
+      cpl-six-entry = λ κ a r x p. flat-ends refl 0 factor-back p (cpl-ends 6 (liquidBy (first a) (second a)));
+      prove-entry = λ κ a r x p. flat-ends refl noReport report-back (p .0) (job-ends (first a) (proverBy (second a)) (third a) (fourth a) (fifth a .now) (length (sixth a .now)));
+      prove-leaves = λ κ a r x p.
+          flat-leaves (flat-ends refl noReport report-back (p .0) (job-ends (first a) (proverBy (second a)) (third a) (fourth a) (fifth a .now) (length (sixth a .now))))
+          (λ number at is. p .1 ∙ left-as-found _ (sixth a .now) is);
+      accept-hands-none = λ κ a r x p is. (ap (λ (f : EndakuroPart). f .start) (p ∙ ap partOf is), ap (λ (f : EndakuroPart). f .length) (p ∙ ap partOf is));
+      accept-hands-five = λ κ a r x p is. (ap (λ (f : EndakuroPart). f .start) (p ∙ ap partOf is), ap (λ (f : EndakuroPart). f .length) (p ∙ ap partOf is));
+      accept-hands-the-runs = λ κ a r x p. ap (λ (f : EndakuroPart). take (f .length) (drop (f .start) (fourth a .now))) p ∙ part-is-accepted (proverBy (first a)) (second a) (third a) (fourth a .now);
+      run-entry = λ κ a r x p. flat-ends refl noFigures run-back p (shown-ends (proverBy (first a)) (second a) (third a .now));
+      write-entry = λ κ a r x p. flat-ends refl noReport report-back (p .0) (write-ends (length (fifth a .now)) (first a) (second a) (third a) (factorsBy (fourth a)));
+      write-leaves = λ κ a r x p.
+          flat-leaves (flat-ends refl noReport report-back (p .0) (write-ends (length (fifth a .now)) (first a) (second a) (third a) (factorsBy (fourth a))))
+          (λ number at is. p .1 ∙ left-as-found _ (fifth a .now) is);
+      read-entry = λ κ a r x p. flat-ends refl noReport report-back p (read-ends (first a .now));
+      fill-entry = λ κ a r x p. flat-ends refl noFill fill-back p (fill-ends (metalBy (first a) (second a)) (third a .now));
+      passes-entry = λ κ a r x p. passes-flat (proverBy (first a)) (second a .now) p;
+      passes-volumes = λ κ a r x p is. passes-held (proverBy (first a)) (second a .now) p ∙ held-when-done (proverBy (first a)) (second a .now) (done-at-zero (passes-flat (proverBy (first a)) (second a .now) p) is);
+      passes-no-volumes = λ κ a r x p some. passes-held (proverBy (first a)) (second a .now) p ∙ held-when-refused (proverBy (first a)) (second a .now) (refused-at-other (passes-flat (proverBy (first a)) (second a .now) p) some);
+      draw-entry = λ κ a r x p. flat-ends refl noBase draw-back p (draw-ends (proverBy (first a)) (second a .now));
+      ticket-entry = λ κ a r x p. flat-ends refl noVolumes ticket-back p (ticket-ends (ticketBy (first a)));
+      live-entry = λ κ a r x p. flat-ends refl noReading live-back p (live-ends (first a) (second a));
+      request-entry = λ shipper number found left r p. flat-ends refl tt change-back (p .0) (request-ends found shipper number);
+      request-leaves = λ shipper number found left r p. flat-leaves (flat-ends refl tt change-back (p .0) (request-ends found shipper number)) (λ n at is. p .1 ∙ request-leaves-book found shipper number is);
+      withdraw-entry = λ shipper number found left r p. flat-ends refl tt change-back (p .0) (withdrawal-ends found shipper number);
+      withdraw-leaves = λ shipper number found left r p. flat-leaves (flat-ends refl tt change-back (p .0) (withdrawal-ends found shipper number)) (λ n at is. p .1 ∙ withdrawal-leaves-book found shipper number is);
+      take-entry = λ found left r p. flat-ends refl noHandout take-back (p .0) (take-ends found);
+      take-leaves = λ found left r p. flat-leaves (flat-ends refl noHandout take-back (p .0) (take-ends found)) (λ n at is. p .1 ∙ take-leaves-book found is);
+      empty-entry = λ κ a r x p. p;
+      ratio-means = λ κ a r x p. ap (λ (f : EndakuroQuotient). byKind (f .kind) (f .value)) p ∙ quotient-back (quotientOf (first a * second a) (third a));
+      ratio-no-value = λ κ a r x p some. value-of p ∙ no-quotient (quotientOf (first a * second a) (third a)) (λ zero. some (kind-of p ∙ zero));
+    }
