@@ -1,5 +1,5 @@
--- An answer's meaning loses nothing, and no second outcome satisfies a contract.
-use mathlib.Core.Path.{_≡_, refl, sym, ap, _∙_}
+-- An answer's meaning loses nothing.
+use mathlib.Core.Path.{_≡_, refl, sym, ap}
 use mathlib.Core.Bool.{Bool}
 use Rattle.refusals.specs.Told.{Told, refused}
 use Rattle.refusals.specs.Table.{numberOf, recordOf}
@@ -29,9 +29,12 @@ handout-one (handout.Handed s x) (handout.Refused r) p = absurd (refused-not-don
 handout-one (handout.Refused r) (handout.Handed s x) p = absurd (refused-not-done p)
 handout-one (handout.Refused r) (handout.Refused q) p = ap handout.Refused (refusal-same r q p)
 
--- two outcomes that satisfy the contract at the same arguments are the same (the other entries are in `promises`)
-pub is-sound-one-outcome : (book : Book) (r q : Bool) → is-sound.Post tt (book, tt) r (book, tt) → is-sound.Post tt (book, tt) q (book, tt) → r ≡ q
-is-sound-one-outcome book r q p p′ = p ∙ sym p′
-
 pub changed-one : (r q : Changed) → toldChange (r .answer) ≡ toldChange (q .answer) → r .book ≡ q .book → r ≡ q
 changed-one r q told left = λ i. record { book = left i; answer = change-one (r .answer) (q .answer) told i }
+
+-- the contract of `sound::is_sound`, whose module is private: `promises` has it by these names in its table of one outcome
+abbrev pub SoundPre : Unit {0} → Book × Unit {0} → Type 0
+SoundPre κ a = is-sound.Pre κ a
+
+abbrev pub SoundPost : Unit {0} → Book × Unit {0} → Bool → Book × Unit {0} → Type 0
+SoundPost κ a r x = is-sound.Post κ a r x

@@ -1,13 +1,12 @@
 -- What the code does over a session is what the book's meanings say: each face's contract gives the meaning of a call, and a session is
 -- made of calls.
-use mathlib.Core.Path.{_≡_, refl, sym, ap, _∙_, subst}
-use mathlib.Core.Bool.{Bool, true, false, not, cond}
+use mathlib.Core.Path.{_≡_, refl, sym, ap, _∙_}
+use mathlib.Core.Bool.{Bool, true, false, not}
 use mathlib.Core.List.{List, [], _∷_}
 use mathlib.Core.Option.{Option, none, some}
 use Prim.Native.Nat.{ℕ}
-use borrow.Author.Tests.{ne-eqb}
 use lib.Dec.{ltb, eqb}
-use Rattle.refusals.specs.Told.{Told, done, refused, Fault, fine, fault, demand, orElse, unless, judged}
+use Rattle.refusals.specs.Told.{Told, refused, Fault, fine, fault, demand, orElse, unless, judged}
 use Rattle.refusals.specs.Table.{numberOf, recordOf}
 use Rattle.refusals.specs.declared.Refusal.{Refusal}
 use Rattle.refusals.specs.declared.Refusal.the-variants.{BookNotSound, UnknownShipper, NumberZero, AlreadyWaiting, CeilingReached, CommonsFull, NotWaiting, NothingToTake}
@@ -22,11 +21,9 @@ use Rattle.book.specs.declared.Change.{Change}
 use Rattle.book.specs.declared.Change.the-variants.{Made, Refused}
 use Rattle.book.specs.declared.Handout.{Handout}
 use Rattle.book.specs.declared.Handout.the-variants as handout
-use Rattle.api.specs.Flat.{numberIn, recordIn, valuesIn, noHandout, flatDone, flatTaken}
-use Rattle.api.specs.declared.books.EndakuroDone.{EndakuroDone}
-use Rattle.api.specs.declared.books.EndakuroTaken.{EndakuroTaken}
-use Rattle.promises.specs.Sessions.{Contracts, Session, about, ByValue, KeptInPlace, read, FromC, callsOf, AsMeant, Sessions}
-use Rattle.promises.proofs.Flattened.{Numbered, change-numbered, take-numbered}
+use Rattle.api.specs.Flat.{flatDone, flatTaken}
+use Rattle.promises.specs.Sessions.{Contracts, Session, about, ByValue, KeptInPlace, FromC, callsOf, AsMeant, Sessions}
+use Rattle.promises.proofs.EntriesC.{entries-c}
 
 -- ---- a session of calls that each do what they mean
 
@@ -135,42 +132,21 @@ in-place-meets (request s x) found = let t = tells-request found s x in (t .case
 in-place-meets (withdrawal s x) found = let t = tells-withdrawal found s x in (t .case, (t .tells, refl), sym (told-about s x (withdrawalFault found s x) _ (t .tells)))
 in-place-meets take found = let t = tells-take found in (t .0, (t .1, refl), sym (t .1))
 
--- ---- from C: what is read of the struct is what was told, since no refusal has number 0
-
-read-back : {A : Type 0} (zeros : A) (t : Told A) → Numbered t → read (numberIn t) (recordIn t) (valuesIn zeros t) ≡ t
-read-back zeros (done values) numbered = refl
-read-back {A} zeros (refused number at) numbered = ap (λ (b : Bool). cond {A = Told A} b (done zeros) (refused number at)) (ne-eqb number 0 numbered)
-
-read-done : (f : Fault) → Tells f → _≡_ {A = Told Unit} (read (flatDone (judged f tt) .number) (flatDone (judged f tt) .at) tt) (judged f tt)
-unfolding flatDone
-read-done f t = read-back tt (judged f tt) (subst (λ (u : Told Unit). Numbered u) (t .tells) (change-numbered (t .case)))
-
-read-taken : (book : Book) → read (flatTaken (takeOf book) .number) (flatTaken (takeOf book) .at) (record { shipper = flatTaken (takeOf book) .shipper; number = flatTaken (takeOf book) .request }) ≡ takeOf book
-unfolding flatTaken
-read-taken book = let t = tells-take book in read-back noHandout (takeOf book) (subst (λ (u : Told Handed). Numbered u) (t .1) (take-numbered (t .0)))
-
--- the struct, read
-doneIn : EndakuroDone → Told Unit
-doneIn r = read (r .number) (r .at) tt
-
-takenIn : EndakuroTaken → Told Handed
-takenIn r = read (r .number) (r .at) (record { shipper = r .shipper; number = r .request })
+-- ---- from C: what is read of the struct is its meaning
 
 from-c-gives : Gives FromC
-unfolding FromC answerTo after requestOf withdrawalOf doneIn takenIn
-from-c-gives (request s x) found answer left (r, post, told) =
-    (told ∙ told-about s x (requestFault found s x) _ (ap doneIn (post .0) ∙ read-done (requestFault found s x) (tells-request found s x)), post .1)
-from-c-gives (withdrawal s x) found answer left (r, post, told) =
-    (told ∙ told-about s x (withdrawalFault found s x) _ (ap doneIn (post .0) ∙ read-done (withdrawalFault found s x) (tells-withdrawal found s x)), post .1)
-from-c-gives take found answer left (r, post, told) = (told ∙ ap takenIn (post .0) ∙ read-taken found, post .1)
+unfolding FromC answerTo after requestOf withdrawalOf
+from-c-gives (request s x) found answer left (r, post, told) = (told ∙ told-about s x (requestFault found s x) _ (entries-c .request-entry s x found left r post .means), post .1)
+from-c-gives (withdrawal s x) found answer left (r, post, told) = (told ∙ told-about s x (withdrawalFault found s x) _ (entries-c .withdraw-entry s x found left r post .means), post .1)
+from-c-gives take found answer left (r, post, told) = (told ∙ entries-c .take-entry found left r post .means, post .1)
 
 from-c-meets : Meets FromC
 unfolding FromC answerTo after requestOf withdrawalOf
 from-c-meets (request s x) found =
-    (flatDone (requestOf found s x), (refl, refl), sym (told-about s x (requestFault found s x) _ (read-done (requestFault found s x) (tells-request found s x))))
+    (flatDone (requestOf found s x), (refl, refl), sym (told-about s x (requestFault found s x) _ (entries-c .request-entry s x found (afterRequest found s x) _ (refl, refl) .means)))
 from-c-meets (withdrawal s x) found =
-    (flatDone (withdrawalOf found s x), (refl, refl), sym (told-about s x (withdrawalFault found s x) _ (read-done (withdrawalFault found s x) (tells-withdrawal found s x))))
-from-c-meets take found = (flatTaken (takeOf found), (refl, refl), sym (read-taken found))
+    (flatDone (withdrawalOf found s x), (refl, refl), sym (told-about s x (withdrawalFault found s x) _ (entries-c .withdraw-entry s x found (afterWithdrawal found s x) _ (refl, refl) .means)))
+from-c-meets take found = (flatTaken (takeOf found), (refl, refl), sym (entries-c .take-entry found (afterTake found) _ (refl, refl) .means))
 
 pub sessions : Sessions
 sessions =

@@ -72,91 +72,94 @@ use Rattle.draw.proofs.draw.Reads as draw-draw
 use Rattle.ticket.proofs.work_out.Reads as ticket-work-out
 use Rattle.live.proofs.convert.Reads as live-convert
 use Rattle.book.proofs.Book.empty.Reads as book-empty
+use Rattle.book.proofs.Outcomes.{SoundPre, SoundPost}
 use Rattle.book.proofs.request.Reads as book-request
 use Rattle.book.proofs.withdraw.Reads as book-withdraw
 use Rattle.book.proofs.take.Reads as book-take
 use Rattle.promises.specs.Arguments.{second, fifth, sixth}
-use Rattle.promises.specs.Outcome.{OneAnswer, OneRead, OneLeft}
+use Rattle.promises.specs.Outcome.{AnyArguments, OneAnswer, OneRead, OneLeft}
 
 pub record OneOutcome : Type 0 where
-  pub refusals-give-back-one : OneAnswer refusals-give-back.Post
-  pub refusals-demand-one : OneAnswer refusals-demand.Post
-  pub refusals-or-else-one : OneAnswer refusals-or-else.Post
-  pub ranges-is-temperature-one : OneAnswer ranges-is-temperature.Post
-  pub ranges-is-draw-prover-one : OneAnswer ranges-is-draw-prover.Post
-  pub ranges-is-draw-measure-one : OneAnswer ranges-is-draw-measure.Post
-  pub ranges-is-pressure-one : OneAnswer ranges-is-pressure.Post
-  pub ranges-is-coefficient-one : OneAnswer ranges-is-coefficient.Post
-  pub ranges-is-modulus-one : OneAnswer ranges-is-modulus.Post
-  pub ranges-is-diameter-one : OneAnswer ranges-is-diameter.Post
-  pub ranges-is-wall-one : OneAnswer ranges-is-wall.Post
-  pub ranges-is-compressibility-one : OneAnswer ranges-is-compressibility.Post
-  pub ranges-is-ctl-one : OneAnswer ranges-is-ctl.Post
-  pub ranges-is-run-factor-one : OneAnswer ranges-is-run-factor.Post
-  pub ranges-is-ctdw-one : OneAnswer ranges-is-ctdw.Post
-  pub ranges-is-volume-one : OneAnswer ranges-is-volume.Post
-  pub ranges-are-pulses-one : OneAnswer ranges-are-pulses.Post
-  pub ranges-is-k-factor-one : OneAnswer ranges-is-k-factor.Post
-  pub ranges-is-limit-one : OneAnswer ranges-is-limit.Post
-  pub ranges-are-runs-one : OneAnswer ranges-are-runs.Post
-  pub ranges-are-passes-one : OneAnswer ranges-are-passes.Post
-  pub ranges-are-fills-one : OneAnswer ranges-are-fills.Post
-  pub ranges-is-certified-one : OneAnswer ranges-is-certified.Post
-  pub ranges-is-scale-one : OneAnswer ranges-is-scale.Post
-  pub ranges-is-reading-one : OneAnswer ranges-is-reading.Post
-  pub ranges-is-meter-factor-one : OneAnswer ranges-is-meter-factor.Post
-  pub ranges-is-sediment-one : OneAnswer ranges-is-sediment.Post
-  pub exact-product-one : OneAnswer exact-product.Post
-  pub exact-sum-one : OneAnswer exact-sum.Post
-  pub exact-is-at-most-one : OneAnswer exact-is-at-most.Post
-  pub exact-round-or-zero-one : OneAnswer exact-round-or-zero.Post
-  pub exact-rounded-quotient-one : OneAnswer exact-rounded-quotient.Post
-  pub exact-rounded-ratio-one : OneAnswer exact-rounded-ratio.Post
-  pub exact-value-or-zero-one : OneAnswer exact-value-or-zero.Post
-  pub factors-coefficient-one : OneAnswer factors-coefficient.Post
-  pub factors-is-metal-one : OneAnswer factors-is-metal.Post
-  pub factors-choose-metal-one : OneAnswer factors-choose-metal.Post
-  pub factors-is-pipe-one : OneAnswer factors-is-pipe.Post
-  pub factors-is-prover-one : OneAnswer factors-is-prover.Post
-  pub factors-is-liquid-one : OneAnswer factors-is-liquid.Post
-  pub factors-cts-one : OneAnswer factors-cts.Post
-  pub factors-cps-one : OneAnswer factors-cps.Post
-  pub factors-cpl-one : OneAnswer factors-cpl.Post
-  pub factors-value-or-zero-one : OneAnswer factors-value-or-zero.Post
-  pub factors-combine-one : OneAnswer factors-combine.Post
-  pub factors-combined-or-zero-one : OneAnswer factors-combined-or-zero.Post
-  pub octets-byte-at-one : OneAnswer octets-byte-at.Post
-  pub octets-word-at-one : OneAnswer octets-word-at.Post
-  pub octets-long-at-one : OneAnswer octets-long-at.Post
-  pub octets-signed-at-one : OneAnswer octets-signed-at.Post
-  pub octets-are-zero-one : OneAnswer octets-are-zero.Post
-  pub octets-word-bytes-one : OneAnswer octets-word-bytes.Post
-  pub octets-long-bytes-one : OneAnswer octets-long-bytes.Post
+  pub refusals-give-back-one : OneAnswer refusals-give-back.Pre refusals-give-back.Post
+  pub refusals-demand-one : OneAnswer refusals-demand.Pre refusals-demand.Post
+  pub refusals-or-else-one : OneAnswer refusals-or-else.Pre refusals-or-else.Post
+  pub ranges-is-temperature-one : OneAnswer ranges-is-temperature.Pre ranges-is-temperature.Post
+  pub ranges-is-draw-prover-one : OneAnswer ranges-is-draw-prover.Pre ranges-is-draw-prover.Post
+  pub ranges-is-draw-measure-one : OneAnswer ranges-is-draw-measure.Pre ranges-is-draw-measure.Post
+  pub ranges-is-pressure-one : OneAnswer ranges-is-pressure.Pre ranges-is-pressure.Post
+  pub ranges-is-coefficient-one : OneAnswer ranges-is-coefficient.Pre ranges-is-coefficient.Post
+  pub ranges-is-modulus-one : OneAnswer ranges-is-modulus.Pre ranges-is-modulus.Post
+  pub ranges-is-diameter-one : OneAnswer ranges-is-diameter.Pre ranges-is-diameter.Post
+  pub ranges-is-wall-one : OneAnswer ranges-is-wall.Pre ranges-is-wall.Post
+  pub ranges-is-compressibility-one : OneAnswer ranges-is-compressibility.Pre ranges-is-compressibility.Post
+  pub ranges-is-ctl-one : OneAnswer ranges-is-ctl.Pre ranges-is-ctl.Post
+  pub ranges-is-run-factor-one : OneAnswer ranges-is-run-factor.Pre ranges-is-run-factor.Post
+  pub ranges-is-ctdw-one : OneAnswer ranges-is-ctdw.Pre ranges-is-ctdw.Post
+  pub ranges-is-volume-one : OneAnswer ranges-is-volume.Pre ranges-is-volume.Post
+  pub ranges-are-pulses-one : OneAnswer ranges-are-pulses.Pre ranges-are-pulses.Post
+  pub ranges-is-k-factor-one : OneAnswer ranges-is-k-factor.Pre ranges-is-k-factor.Post
+  pub ranges-is-limit-one : OneAnswer ranges-is-limit.Pre ranges-is-limit.Post
+  pub ranges-are-runs-one : OneAnswer ranges-are-runs.Pre ranges-are-runs.Post
+  pub ranges-are-passes-one : OneAnswer ranges-are-passes.Pre ranges-are-passes.Post
+  pub ranges-are-fills-one : OneAnswer ranges-are-fills.Pre ranges-are-fills.Post
+  pub ranges-is-certified-one : OneAnswer ranges-is-certified.Pre ranges-is-certified.Post
+  pub ranges-is-scale-one : OneAnswer ranges-is-scale.Pre ranges-is-scale.Post
+  pub ranges-is-reading-one : OneAnswer ranges-is-reading.Pre ranges-is-reading.Post
+  pub ranges-is-meter-factor-one : OneAnswer ranges-is-meter-factor.Pre ranges-is-meter-factor.Post
+  pub ranges-is-sediment-one : OneAnswer ranges-is-sediment.Pre ranges-is-sediment.Post
+  pub exact-product-one : OneAnswer exact-product.Pre exact-product.Post
+  pub exact-sum-one : OneAnswer exact-sum.Pre exact-sum.Post
+  pub exact-is-at-most-one : OneAnswer exact-is-at-most.Pre exact-is-at-most.Post
+  pub exact-round-or-zero-one : OneAnswer exact-round-or-zero.Pre exact-round-or-zero.Post
+  pub exact-rounded-quotient-one : OneAnswer exact-rounded-quotient.Pre exact-rounded-quotient.Post
+  pub exact-rounded-ratio-one : OneAnswer exact-rounded-ratio.Pre exact-rounded-ratio.Post
+  pub exact-value-or-zero-one : OneAnswer exact-value-or-zero.Pre exact-value-or-zero.Post
+  pub factors-coefficient-one : OneAnswer factors-coefficient.Pre factors-coefficient.Post
+  pub factors-is-metal-one : OneAnswer factors-is-metal.Pre factors-is-metal.Post
+  pub factors-choose-metal-one : OneAnswer factors-choose-metal.Pre factors-choose-metal.Post
+  pub factors-is-pipe-one : OneAnswer factors-is-pipe.Pre factors-is-pipe.Post
+  pub factors-is-prover-one : OneAnswer factors-is-prover.Pre factors-is-prover.Post
+  pub factors-is-liquid-one : OneAnswer factors-is-liquid.Pre factors-is-liquid.Post
+  pub factors-cts-one : OneAnswer factors-cts.Pre factors-cts.Post
+  pub factors-cps-one : OneAnswer factors-cps.Pre factors-cps.Post
+  pub factors-cpl-one : OneAnswer factors-cpl.Pre factors-cpl.Post
+  pub factors-value-or-zero-one : OneAnswer factors-value-or-zero.Pre factors-value-or-zero.Post
+  pub factors-combine-one : OneAnswer factors-combine.Pre factors-combine.Post
+  pub factors-combined-or-zero-one : OneAnswer factors-combined-or-zero.Pre factors-combined-or-zero.Post
+  pub octets-byte-at-one : OneAnswer octets-byte-at.Pre octets-byte-at.Post
+  pub octets-word-at-one : OneAnswer octets-word-at.Pre octets-word-at.Post
+  pub octets-long-at-one : OneAnswer octets-long-at.Pre octets-long-at.Post
+  pub octets-signed-at-one : OneAnswer octets-signed-at.Pre octets-signed-at.Post
+  pub octets-are-zero-one : OneAnswer octets-are-zero.Pre octets-are-zero.Post
+  pub octets-word-bytes-one : OneAnswer octets-word-bytes.Pre octets-word-bytes.Post
+  pub octets-long-bytes-one : OneAnswer octets-long-bytes.Pre octets-long-bytes.Post
   -- the bytes left in `to`
+  pub octets-write-at-any : AnyArguments octets-write-at.Pre
   pub octets-write-at-one : OneLeft octets-write-at.Post (λ κ x. second x .now)
-  pub group-is-group-one : OneAnswer group-is-group.Post
-  pub group-first-group-one : OneAnswer group-first-group.Post
-  pub group-mean-one : OneAnswer group-mean.Post
-  pub group-find-spread-one : OneAnswer group-find-spread.Post
-  pub report-write-one : OneAnswer report-write.Post
+  pub group-is-group-one : OneAnswer group-is-group.Pre group-is-group.Post
+  pub group-first-group-one : OneAnswer group-first-group.Pre group-first-group.Post
+  pub group-mean-one : OneAnswer group-mean.Pre group-mean.Post
+  pub group-find-spread-one : OneAnswer group-find-spread.Pre group-find-spread.Post
+  pub report-write-one : OneAnswer report-write.Pre report-write.Post
   -- and the bytes left in its buffer
   pub report-write-left : OneLeft report-write.Post (λ κ x. fifth x .now)
-  pub report-read-one : OneAnswer report-read.Post
-  pub run-decode-one : OneAnswer run-decode.Post
-  pub run-is-run-one : OneAnswer run-is-run.Post
-  pub run-work-out-one : OneAnswer run-work-out.Post
-  pub run-show-one : OneAnswer run-show.Post
-  pub proving-prove-one : OneAnswer proving-prove.Post
+  pub report-read-one : OneAnswer report-read.Pre report-read.Post
+  pub run-decode-one : OneAnswer run-decode.Pre run-decode.Post
+  pub run-is-run-one : OneAnswer run-is-run.Pre run-is-run.Post
+  pub run-work-out-one : OneAnswer run-work-out.Pre run-work-out.Post
+  pub run-show-one : OneAnswer run-show.Pre run-show.Post
+  pub proving-prove-one : OneAnswer proving-prove.Pre proving-prove.Post
   -- and the bytes left in its buffer
   pub proving-prove-left : OneLeft proving-prove.Post (λ κ x. sixth x .now)
   -- the part handed back, by the bytes in it: of the place that holds them a contract over values can't speak
-  pub proving-accept-one : OneRead proving-accept.Post (λ κ r. r .now)
-  pub draw-fill-one : OneAnswer draw-fill.Post
-  pub draw-passes-one : OneAnswer draw-passes.Post
-  pub draw-draw-one : OneAnswer draw-draw.Post
-  pub ticket-work-out-one : OneAnswer ticket-work-out.Post
-  pub live-convert-one : OneAnswer live-convert.Post
-  pub book-empty-one : OneAnswer book-empty.Post
-  pub book-request-one : OneAnswer book-request.Post
-  pub book-withdraw-one : OneAnswer book-withdraw.Post
-  pub book-take-one : OneAnswer book-take.Post
+  pub proving-accept-one : OneRead proving-accept.Pre proving-accept.Post (λ κ r. r .now)
+  pub draw-fill-one : OneAnswer draw-fill.Pre draw-fill.Post
+  pub draw-passes-one : OneAnswer draw-passes.Pre draw-passes.Post
+  pub draw-draw-one : OneAnswer draw-draw.Pre draw-draw.Post
+  pub ticket-work-out-one : OneAnswer ticket-work-out.Pre ticket-work-out.Post
+  pub live-convert-one : OneAnswer live-convert.Pre live-convert.Post
+  pub book-empty-one : OneAnswer book-empty.Pre book-empty.Post
+  pub book-is-sound-one : OneAnswer SoundPre SoundPost
+  pub book-request-one : OneAnswer book-request.Pre book-request.Post
+  pub book-withdraw-one : OneAnswer book-withdraw.Pre book-withdraw.Post
+  pub book-take-one : OneAnswer book-take.Pre book-take.Post

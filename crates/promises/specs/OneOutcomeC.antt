@@ -21,25 +21,25 @@ use Rattle.promises.specs.Arguments.{fifth, sixth}
 use Rattle.promises.specs.Outcome.{OneAnswer, OneLeft}
 
 pub record OneOutcomeC : Type 0 where
-  pub cts-four-one : OneAnswer cts-four.Post
-  pub cts-six-one : OneAnswer cts-six.Post
-  pub cps-four-one : OneAnswer cps-four.Post
-  pub cps-six-one : OneAnswer cps-six.Post
-  pub cpl-four-one : OneAnswer cpl-four.Post
-  pub cpl-six-one : OneAnswer cpl-six.Post
-  pub ratio-one : OneAnswer ratio.Post
-  pub prove-one : OneAnswer prove.Post
+  pub cts-four-one : OneAnswer cts-four.Pre cts-four.Post
+  pub cts-six-one : OneAnswer cts-six.Pre cts-six.Post
+  pub cps-four-one : OneAnswer cps-four.Pre cps-four.Post
+  pub cps-six-one : OneAnswer cps-six.Pre cps-six.Post
+  pub cpl-four-one : OneAnswer cpl-four.Pre cpl-four.Post
+  pub cpl-six-one : OneAnswer cpl-six.Pre cpl-six.Post
+  pub ratio-one : OneAnswer ratio.Pre ratio.Post
+  pub prove-one : OneAnswer prove.Pre prove.Post
   -- and the bytes left in its buffer
   pub prove-left : OneLeft prove.Post (λ κ x. sixth x .now)
-  pub accept-one : OneAnswer accept.Post
-  pub run-one : OneAnswer a-run.Post
-  pub write-one : OneAnswer write.Post
+  pub accept-one : OneAnswer accept.Pre accept.Post
+  pub run-one : OneAnswer a-run.Pre a-run.Post
+  pub write-one : OneAnswer write.Pre write.Post
   -- and the bytes left in its buffer
   pub write-left : OneLeft write.Post (λ κ x. fifth x .now)
-  pub read-one : OneAnswer read.Post
-  pub fill-one : OneAnswer fill.Post
-  pub passes-one : OneAnswer passes.Post
-  pub draw-one : OneAnswer draw.Post
-  pub ticket-one : OneAnswer ticket.Post
-  pub live-one : OneAnswer live.Post
-  pub empty-one : OneAnswer empty.Post
+  pub read-one : OneAnswer read.Pre read.Post
+  pub fill-one : OneAnswer fill.Pre fill.Post
+  pub passes-one : OneAnswer passes.Pre passes.Post
+  pub draw-one : OneAnswer draw.Pre draw.Post
+  pub ticket-one : OneAnswer ticket.Pre ticket.Post
+  pub live-one : OneAnswer live.Pre live.Post
+  pub empty-one : OneAnswer empty.Pre empty.Post

@@ -6,13 +6,18 @@ use mathlib.Core.Path.{_≡_}
 use mathlib.Core.List.{List}
 use Prim.Native.Nat.{ℕ}
 
--- two outcomes that satisfy a contract at the same arguments have the same answer
-abbrev pub OneAnswer : {K : Type 0} {A R X : K → Type 0} → ((κ : K) → A κ → R κ → X κ → Type 0) → Type 0
-OneAnswer {K} {A} {R} {X} post = (κ : K) (a : A κ) (r q : R κ) (x y : X κ) → post κ a r x → post κ a q y → r ≡ q
+-- Demand 1: 'No caller has to check first.' What a function asks of its arguments, `f.Pre`, holds of any: a `requires` that is added to it
+-- later is refused here
+abbrev pub AnyArguments : {K : Type 0} {A : K → Type 0} → ((κ : K) → A κ → Type 0) → Type 0
+AnyArguments {K} {A} pre = (κ : K) (a : A κ) → pre κ a
 
--- the same bytes in what they answer with
-abbrev pub OneRead : {K : Type 0} {A R X : K → Type 0} → ((κ : K) → A κ → R κ → X κ → Type 0) → ((κ : K) → R κ → List ℕ) → Type 0
-OneRead {K} {A} {R} {X} post bytes = (κ : K) (a : A κ) (r q : R κ) (x y : X κ) → post κ a r x → post κ a q y → bytes κ r ≡ bytes κ q
+-- any arguments are taken, and two outcomes that satisfy the contract at the same ones have the same answer
+abbrev pub OneAnswer : {K : Type 0} {A R X : K → Type 0} → ((κ : K) → A κ → Type 0) → ((κ : K) → A κ → R κ → X κ → Type 0) → Type 0
+OneAnswer {K} {A} {R} {X} pre post = AnyArguments pre × ((κ : K) (a : A κ) (r q : R κ) (x y : X κ) → post κ a r x → post κ a q y → r ≡ q)
+
+-- any arguments are taken, and what two outcomes answer with has the same bytes
+abbrev pub OneRead : {K : Type 0} {A R X : K → Type 0} → ((κ : K) → A κ → Type 0) → ((κ : K) → A κ → R κ → X κ → Type 0) → ((κ : K) → R κ → List ℕ) → Type 0
+OneRead {K} {A} {R} {X} pre post bytes = AnyArguments pre × ((κ : K) (a : A κ) (r q : R κ) (x y : X κ) → post κ a r x → post κ a q y → bytes κ r ≡ bytes κ q)
 
 -- and the same bytes in what was lent to be written
 abbrev pub OneLeft : {K : Type 0} {A R X : K → Type 0} → ((κ : K) → A κ → R κ → X κ → Type 0) → ((κ : K) → X κ → List ℕ) → Type 0

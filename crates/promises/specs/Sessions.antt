@@ -2,10 +2,8 @@
 -- each was answered, and the book left; every call in it did what its function's contract says. There are three faces: `book` by value,
 -- `keeper` in place and the C functions.
 use mathlib.Core.Path.{_≡_}
-use mathlib.Core.Bool.{cond}
 use mathlib.Core.List.{List, [], _∷_}
 use Prim.Native.Nat.{ℕ}
-use lib.Dec.{eqb}
 use Rattle.refusals.specs.Told.{Told, done, refused}
 use Rattle.book.specs.Answers.{toldChange, toldTake}
 use Rattle.book.specs.Demand3.{Call, request, withdrawal, take, Answer, answerTo, after, afterAll, Step, step, answersTo}
@@ -19,6 +17,7 @@ use Rattle.book.proofs.withdraw.Reads as book-withdraw
 use Rattle.book.proofs.take.Reads as book-take
 use Rattle.api.specs.declared.books.EndakuroDone.{EndakuroDone}
 use Rattle.api.specs.declared.books.EndakuroTaken.{EndakuroTaken}
+use Rattle.promises.specs.FlatEnding.{toldIn, changeIn, handoutIn}
 use Rattle.promises.specs.InPlace as keeper
 use Rattle.promises.specs.InPlaceC as c
 
@@ -54,14 +53,11 @@ KeptInPlace (request shipper number) found answer left = (r : Change) × (keeper
 KeptInPlace (withdrawal shipper number) found answer left = (r : Change) × (keeper.Withdraws shipper number found left r) × (answer ≡ about shipper number (toldChange r))
 KeptInPlace take found answer left = (r : Handout) × (keeper.Takes found left r) × (answer ≡ toldTake r)
 
--- From C: what the C functions' clauses say (InPlaceC.antt). A caller reads the struct: number 0 is done, any other is the refusal's.
-abbrev pub read : {A : Type 0} → ℕ → ℕ → A → Told A
-read number at values = cond (eqb number 0) (done values) (refused number at)
-
+-- From C: what the C functions' clauses say (InPlaceC.antt), and the struct as a caller reads it (FlatEnding.antt).
 unfoldable pub FromC : Contracts
-FromC (request shipper number) found answer left = (r : EndakuroDone) × (c.Requests shipper number found left r) × (answer ≡ about shipper number (read (r .number) (r .at) tt))
-FromC (withdrawal shipper number) found answer left = (r : EndakuroDone) × (c.Withdraws shipper number found left r) × (answer ≡ about shipper number (read (r .number) (r .at) tt))
-FromC take found answer left = (r : EndakuroTaken) × (c.Takes found left r) × (answer ≡ read (r .number) (r .at) (record { shipper = r .shipper; number = r .request }))
+FromC (request shipper number) found answer left = (r : EndakuroDone) × (c.Requests shipper number found left r) × (answer ≡ about shipper number (toldIn (changeIn r)))
+FromC (withdrawal shipper number) found answer left = (r : EndakuroDone) × (c.Withdraws shipper number found left r) × (answer ≡ about shipper number (toldIn (changeIn r)))
+FromC take found answer left = (r : EndakuroTaken) × (c.Takes found left r) × (answer ≡ toldIn (handoutIn r))
 
 -- The calls of a session.
 unfoldable pub callsOf : List Step → List Call

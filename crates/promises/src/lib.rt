@@ -1,4 +1,6 @@
-// The customer's demands as theorems: no code. The pages to read, in proofs/, with the words they use in specs/:
-// Figures (the fifteen figures), Entries (demand 1), Jobs and Formulas (demand 2), Sessions and Demand3 (demand 3), OneOutcome and InPlace (no
-// second outcome).
-// Demand1, AtFault and Demand2 are the same demands of the meanings that the contracts cite; Endings, Reasons and Groups are their laws.
+// The customer's demands as theorems: no code. The pages to read are in specs/, each with its proof under the same name in proofs/:
+// Figures (the fifteen figures), Entries and EntriesC (demand 1, of the libraries and of the C face), Jobs and Formulas (demand 2),
+// Sessions and Demand3 (demand 3), OneOutcome, GrammarOutcome, OneOutcomeC, InPlace and InPlaceC (any arguments, and no second outcome),
+// Flattened (the C face loses nothing).
+// Demand1, AtFault and Demand2 are the same demands of the meanings that the contracts cite; Endings, FlatEndings, Reasons and Groups are
+// their laws.
