@@ -1,6 +1,6 @@
 -- 01, 'The book': 'above that, in a thin layer, the controller keeps one book and changes it in place.' Demand 1 and one outcome for those
 -- calls (`keeper`). Their contracts have no plain reading (`Reads`), so the page has two parts: that each clause, in every model, is the
--- fact named here of the book found, the book left and the answer; and what follows from the fact.
+-- fact named here of the book found, the book left and the answer, and that nothing is asked; and what follows from the fact.
 use mathlib.Core.Path.{_≡_}
 use mathlib.Core.List.{[], _∷_}
 use Prim.Native.Nat.{ℕ}

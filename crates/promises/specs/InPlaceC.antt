@@ -1,5 +1,5 @@
 -- The C face's calls on a book behind a pointer, as InPlace.antt has those of `keeper`: that each clause, in every model, is the fact named
--- here of the book found, the book left and the answer; and that the fact fixes the two.
+-- here of the book found, the book left and the answer, and that nothing is asked; and that the fact fixes the two.
 use mathlib.Core.Path.{_≡_}
 use mathlib.Core.Bool.{Bool}
 use Prim.Native.Nat.{ℕ}
