@@ -4,7 +4,6 @@ use lib.ListN.{length}
 use Rattle.factors.specs.Places.{digits}
 use Rattle.promises.specs.Arguments.{first, second, third, fourth, fifth, sixth}
 use Rattle.promises.specs.Entries.{Entries}
-use Rattle.promises.proofs.AtFault.{job-at-fault, draw-at-fault}
 use Rattle.promises.proofs.Endings.{as-told}
 use Rattle.promises.proofs.Demand1.{cts-ends, cps-ends, cpl-ends, worked-ends, shown-ends, job-ends, none-when-refused, write-ends, read-ends, fill-ends, passes-end, draw-ends}
 use Rattle.promises.proofs.Demand1.{ticket-ends, live-ends, request-ends, withdrawal-ends, take-ends, left-as-found, request-leaves-book, withdrawal-leaves-book, take-leaves-book}
@@ -18,7 +17,6 @@ entries =
       work-out-entry = λ κ a r x p. as-told p (worked-ends (first a) (second a) (third a) (fourth a));
       show-entry = λ κ a r x p. as-told p (shown-ends (first a) (second a) (third a .now));
       prove-entry = λ κ a r x p. as-told (p .0) (job-ends (first a) (second a) (third a) (fourth a) (fifth a .now) (length (sixth a .now)));
-      prove-cause = λ κ a r x p is. job-at-fault (second a) (third a) (fifth a .now) (first a) (fourth a) (length (sixth a .now)) (sym (p .0) ∙ is);
       prove-leaves = λ κ a r x p is. p .1 ∙ left-as-found _ (sixth a .now) (sym (p .0) ∙ is);
       accept-hands-none = λ κ a r x p is. p ∙ none-when-refused (first a) (second a) (third a) (fourth a .now) is;
       write-entry = λ κ a r x p. as-told (p .0) (write-ends (length (fifth a .now)) (first a) (second a) (third a) (fourth a));
@@ -27,7 +25,6 @@ entries =
       fill-entry = λ κ a r x p. as-told p (fill-ends (first a) (second a .now));
       passes-entry = λ κ a r x p. as-told (p .0) (passes-end (first a) (second a .now));
       draw-entry = λ κ a r x p. as-told p (draw-ends (first a) (second a .now));
-      draw-cause = λ κ a r x p is. draw-at-fault (first a) (second a .now) (sym p ∙ is);
       ticket-entry = λ κ a r x p. as-told p (ticket-ends (first a));
       convert-entry = λ κ a r x p. as-told p (live-ends (first a .temperature) (first a .pressure));
       request-entry = λ κ a r x p. as-told (p .0) (request-ends (first a) (second a) (third a));

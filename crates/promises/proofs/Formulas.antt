@@ -169,7 +169,7 @@ run-rounded prover k run at {f} is =
 
 -- every run of an acceptable job
 pub accepted-run-rounded : (prover : Prover) (k limit : ℕ) (s : List ℕ) → Acceptable prover k limit s → (i : ℕ) → i < runsIn s → RunRounded prover k (runAt runSize s i) (figuresOf prover k (runAt runSize s i))
-accepted-run-rounded prover k limit s ok i h = figures-rounded prover k (runAt runSize s i) (ok .input .settings) (ok .input .kFactor) (ok .input .fields i h) (ok .figures .factor i h)
+accepted-run-rounded prover k limit s ok i h = figures-rounded prover k (runAt runSize s i) (ok .input .settled .settings) (ok .input .settled .kFactor) (ok .input .records i h .fields) (ok .figures i h .factor)
 
 -- the mean of n values is their sum over n
 mean-rounded : (f : ℕ → ℕ) (n at : ℕ) → 0 < n → RoundedOnce (sumOf (listed f n at)) n (meanOf (listed f n at))
@@ -221,16 +221,16 @@ pass-pressure-ok prover s input pass = by-place (firstPlace (isOf s pass) (recor
     by-place none is = refl
     by-place (some i) is =
         let first : First (isOf s pass) (recordsIn 32 s) 0 i = place-first (isOf s pass) (recordsIn 32 s) 0 is in
-        fields (fillAt s i) (input .fields i (omega (arith, first .below))) .pressure
+        fields (fillAt s i) (input .fills .records i (omega (arith, first .below)) .fields) .pressure
 
 pub pass-rounded : (prover : Prover) (s : List ℕ) → InputWithin prover s → (pass : ℕ) → PassRounded prover s pass
 unfolding passVolume correctedVolume waterAt
 pass-rounded prover s input pass =
     let ok = pass-pressure-ok prover s input pass in
     record {
-      pipe-pressure = cps-once 6 (prover .pipe) (passPressure s pass) (input .pipe) ok;
+      pipe-pressure = cps-once 6 (prover .pipe) (passPressure s pass) (input .fills .settled .pipe) ok;
       water-pressure = cpl-once 6 (waterAt (passPressure s pass)) (water-ok (passPressure s pass) ok);
-      pass-volume = once _ _ (mul-pos (pipe-some (prover .pipe) (passPressure s pass) (input .pipe) ok) (water-some (passPressure s pass) ok));
+      pass-volume = once _ _ (mul-pos (pipe-some (prover .pipe) (passPressure s pass) (input .fills .settled .pipe) ok) (water-some (passPressure s pass) ok));
     }
 
 -- 'the same in barrels (÷ 9702, 4 places)'

@@ -21,8 +21,8 @@ jobs =
       proved-of-the-first = λ κ a r x report p is.
           let job = sym (p .0) ∙ ap told is in
           (first-is-used (second a) (third a) (fourth a) (fifth a .now) (first a) (length (sixth a .now)) job, p .1 ∙ ap (λ (t : Told Report). leftBy t bytesOfReport (sixth a .now)) job);
-      proved-when = λ κ a r x p buffer asked ok.
-          let job = accepted-when (second a) (third a) (fourth a) (fifth a .now) (first a) (length (sixth a .now)) buffer asked ok in
+      proved-when = λ κ a r x p asked ok.
+          let job = accepted-when (second a) (third a) (fourth a) (fifth a .now) (first a) (length (sixth a .now)) asked ok in
           (job .0, told-one r (Fields (job .0)) (p .0 ∙ job .1));
       drawn-only-when = λ κ a r x base p is. draw-accepted-only-when (first a) (second a .now) (sym p ∙ ap toldDraw is);
       drawn-of-the-first = λ κ a r x base p is. draw-first-is-used (first a) (second a .now) (sym p ∙ ap toldDraw is);

@@ -1,10 +1,12 @@
 pub mod Figures
 pub mod Endings
 pub mod Demand1
-pub mod Reasons
 pub mod Groups
+pub mod Meeting
+pub mod Reasons
+pub mod Judging
 pub mod Demand2
-pub mod AtFault
+pub mod ExactCauses
 pub mod Entries
 pub mod Formulas
 pub mod Jobs

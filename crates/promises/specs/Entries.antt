@@ -6,7 +6,6 @@
 use mathlib.Core.Path.{_≡_}
 use mathlib.Core.List.{[], _∷_}
 use Prim.Native.Nat.{ℕ}
-use lib.ListN.{length}
 use Rattle.refusals.specs.Told.{refused}
 use Rattle.octets.specs.Records.{recordsIn}
 use Rattle.factors.specs.Answers.{told as toldFactor}
@@ -37,7 +36,6 @@ use Rattle.book.proofs.withdraw.Reads as withdraw
 use Rattle.book.proofs.take.Reads as take
 use Rattle.promises.specs.Arguments.{first, second, third, fourth, fifth, sixth}
 use Rattle.promises.specs.Ending.{Ends}
-use Rattle.promises.specs.Causes.{JobCause, DrawCause}
 
 pub record Entries : Type 0 where
   pub cts-entry : (κ : _) (a : _) (r : _) (x : _) → cts.Post κ a r x → Ends (3 ∷ 5 ∷ []) 0 0 (toldFactor r)
@@ -48,8 +46,6 @@ pub record Entries : Type 0 where
   pub show-entry : (κ : _) (a : _) (r : _) (x : _) → show.Post κ a r x → Ends (1 ∷ 3 ∷ 4 ∷ 5 ∷ 2 ∷ 7 ∷ 8 ∷ []) 1 1 (toldRun r)
   -- the job: records 1 to the count of those lent; a refusal leaves the buffer's bytes
   pub prove-entry : (κ : _) (a : _) (r : _) (x : _) → prove.Post κ a r x → Ends (14 ∷ 22 ∷ 1 ∷ 3 ∷ 4 ∷ 5 ∷ 2 ∷ 7 ∷ 8 ∷ 9 ∷ []) 1 (runsIn (fifth a .now)) (toldReport r)
-  -- its number's cause holds, and its record is the first at fault
-  pub prove-cause : (κ : _) (a : _) (r : _) (x : _) {number at : ℕ} → prove.Post κ a r x → toldReport r ≡ refused number at → JobCause (first a) (second a) (third a) (fourth a) (fifth a .now) (length (sixth a .now)) number at
   pub prove-leaves : (κ : _) (a : _) (r : _) (x : _) {number at : ℕ} → prove.Post κ a r x → toldReport r ≡ refused number at → sixth x .now ≡ sixth a .now
   -- '(The entry that hands run records back hands back none when it refuses, and no number.)'
   pub accept-hands-none : (κ : _) (a : _) (r : _) (x : _) {number at : ℕ} → accept.Post κ a r x → foundOf (first a) (second a) (third a) (fourth a .now) ≡ refused number at → r .now ≡ []
@@ -59,7 +55,6 @@ pub record Entries : Type 0 where
   pub fill-entry : (κ : _) (a : _) (r : _) (x : _) → fill.Post κ a r x → Ends (1 ∷ 3 ∷ 5 ∷ 2 ∷ []) 1 1 (toldFill r)
   pub passes-entry : (κ : _) (a : _) (r : _) (x : _) → passes.Post κ a r x → Ends (1 ∷ 3 ∷ 5 ∷ 2 ∷ 6 ∷ []) 1 (recordsIn 32 (second a .now)) (toldPasses (r .answer))
   pub draw-entry : (κ : _) (a : _) (r : _) (x : _) → draw.Post κ a r x → Ends (1 ∷ 3 ∷ 5 ∷ 2 ∷ 6 ∷ 9 ∷ []) 1 (recordsIn 32 (second a .now)) (toldDraw r)
-  pub draw-cause : (κ : _) (a : _) (r : _) (x : _) {number at : ℕ} → draw.Post κ a r x → toldDraw r ≡ refused number at → DrawCause (first a) (second a .now) number at
   pub ticket-entry : (κ : _) (a : _) (r : _) (x : _) → ticket.Post κ a r x → Ends (10 ∷ 11 ∷ []) 0 0 (toldTicket r)
   pub convert-entry : (κ : _) (a : _) (r : _) (x : _) → convert.Post κ a r x → Ends (12 ∷ 13 ∷ []) 0 0 (toldLive r)
   -- the book: a refusal hands back the book that came in

@@ -17,11 +17,11 @@ use Rattle.promises.specs.WaterDraw as water
 pub record Jobs : Type 0 where
   -- a job that answers with a report was acceptable, the report is of the first five, and its bytes are in the buffer
   pub proved-only-when : (κ : _) (a : _) (r : _) (x : _) (report : Report) → prove.Post κ a r x → r ≡ Fields report
-      → (length (sixth a .now) ≡ 32) × (first a ≡ 0 → ⊥) × proving.Acceptable (second a) (third a) (fourth a) (fifth a .now)
+      → proving.Asked (first a) (length (sixth a .now)) × proving.Acceptable (second a) (third a) (fourth a) (fifth a .now)
   pub proved-of-the-first : (κ : _) (a : _) (r : _) (x : _) (report : Report) → prove.Post κ a r x → r ≡ Fields report
       → proving.Used (first a) (second a) (third a) (fourth a) (fifth a .now) report × (sixth x .now ≡ bytesOfReport report)
-  -- and every acceptable job, with a 32-byte buffer and a request number that is not zero, answers with a report
-  pub proved-when : (κ : _) (a : _) (r : _) (x : _) → prove.Post κ a r x → length (sixth a .now) ≡ 32 → (first a ≡ 0 → ⊥)
+  -- and every acceptable job that is asked for so answers with a report
+  pub proved-when : (κ : _) (a : _) (r : _) (x : _) → prove.Post κ a r x → proving.Asked (first a) (length (sixth a .now))
       → proving.Acceptable (second a) (third a) (fourth a) (fifth a .now) → (report : Report) × (r ≡ Fields report)
   -- the same of a water draw
   pub drawn-only-when : (κ : _) (a : _) (r : _) (x : _) (base : BaseVolume) → draw.Post κ a r x → r ≡ Drawn base → water.Acceptable (first a) (second a .now)

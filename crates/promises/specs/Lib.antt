@@ -1,8 +1,10 @@
 pub mod Arguments
+pub mod Records
 pub mod Proving
 pub mod WaterDraw
 pub mod Ending
 pub mod Causes
+pub mod ExactCauses
 pub mod Entries
 pub mod Jobs
 pub mod Outcome

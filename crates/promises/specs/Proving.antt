@@ -3,8 +3,7 @@
 use mathlib.Core.Path.{_≡_}
 use mathlib.Core.Bool.{true}
 use mathlib.Core.List.{List}
-use Prim.Native.Nat.{ℕ, _+_, _%_, _≤_, _<_}
-use lib.ListN.{length}
+use Prim.Native.Nat.{ℕ, _+_, _≤_, _<_}
 use Rattle.ranges.specs.Table.{runsOk, kFactorOk, limitOk, volumeOk, runFactorOk}
 use Rattle.factors.specs.Prover.{proverOk}
 use Rattle.factors.specs.declared.Prover.{Prover}
@@ -17,28 +16,45 @@ use Rattle.run.specs.Record.{runSize, runAt, runOk, unnamedOk}
 use Rattle.run.specs.Figures.{figuresOf}
 use Rattle.proving.specs.Judging.{runsIn}
 use Rattle.proving.specs.Job.{factorAt}
+use Rattle.promises.specs.Records.{Lent, Every}
 
--- 'its input .. within limits': 5 to 20 whole records, the settings, K, the limit, and of every record its fields and its unnamed bytes
-pub record InputWithin (prover : Prover) (k limit : ℕ) (s : List ℕ) : Type 0 where
-  pub whole : length s % runSize ≡ 0
-  pub runs : runsOk (runsIn s) ≡ true
+-- 14 and 22 don't apply: a 32-byte buffer and a request number that is not zero
+pub record Asked (request size : ℕ) : Type 0 where
+  pub buffer : size ≡ 32
+  pub number : request ≡ 0 → ⊥
+
+-- neither do 1, 3 and 4: 5 to 20 whole records are lent, and the prover's settings, K and the limit are in range
+pub record SettingsInOrder (prover : Prover) (k limit : ℕ) (s : List ℕ) : Type 0 where
+  pub lent : Lent runsOk runSize s
   pub settings : proverOk prover ≡ true
   pub kFactor : kFactorOk k ≡ true
   pub limits : limitOk limit ≡ true
-  pub fields : (i : ℕ) → i < runsIn s → runOk (runAt runSize s i) ≡ true
-  pub unnamed : (i : ℕ) → i < runsIn s → unnamedOk runSize s i ≡ true
 
--- 'each run's own figures are within limits': its indicated volume and its factor
-pub record FiguresWithin (prover : Prover) (k : ℕ) (s : List ℕ) : Type 0 where
-  pub volume : (i : ℕ) → i < runsIn s → volumeOk (figuresOf prover k (runAt runSize s i) .indicated) ≡ true
-  pub factor : (i : ℕ) → i < runsIn s → runFactorOk (figuresOf prover k (runAt runSize s i) .factor) ≡ true
+-- nor 5 and 2 for the record at place i: its fields and its unnamed bytes
+pub record RunInOrder (s : List ℕ) (i : ℕ) : Type 0 where
+  pub fields : runOk (runAt runSize s i) ≡ true
+  pub unnamed : unnamedOk runSize s i ≡ true
+
+-- nor 7 and 8 for the run at place i: its indicated volume and its factor
+pub record RunWithin (prover : Prover) (k : ℕ) (s : List ℕ) (i : ℕ) : Type 0 where
+  pub volume : volumeOk (figuresOf prover k (runAt runSize s i) .indicated) ≡ true
+  pub factor : runFactorOk (figuresOf prover k (runAt runSize s i) .factor) ≡ true
+
+-- 'its input .. within limits'
+pub record InputWithin (prover : Prover) (k limit : ℕ) (s : List ℕ) : Type 0 where
+  pub settled : SettingsInOrder prover k limit s
+  pub records : Every (runsIn s) (RunInOrder s)
+
+-- 'each run's own figures are within limits'
+abbrev pub FiguresWithin : Prover → ℕ → List ℕ → Type 0
+FiguresWithin prover k s = Every (runsIn s) (RunWithin prover k s)
 
 -- 'five consecutive runs .. meet the repeatability limit': there are five from place `at` on (places from 0), and their factors qualify
 pub record FiveMeet (prover : Prover) (k limit : ℕ) (s : List ℕ) (at : ℕ) : Type 0 where
   pub room : at + 5 ≤ runsIn s
   pub meet : qualifies limit (listed (factorAt prover k s) 5 at) ≡ true
 
--- all that the job's acceptance takes, beside a 32-byte buffer and a request number that is not zero
+-- all that acceptance takes; a job that writes a report must be asked for as well
 pub record Acceptable (prover : Prover) (k limit : ℕ) (s : List ℕ) : Type 0 where
   pub input : InputWithin prover k limit s
   pub figures : FiguresWithin prover k s

@@ -3,8 +3,7 @@
 use mathlib.Core.Path.{_≡_}
 use mathlib.Core.Bool.{true}
 use mathlib.Core.List.{List}
-use Prim.Native.Nat.{ℕ, _+_, _%_, _≤_, _<_}
-use lib.ListN.{length}
+use Prim.Native.Nat.{ℕ, _+_, _≤_, _<_}
 use Rattle.ranges.specs.Table.{fillsOk, passesOk}
 use Rattle.factors.specs.Metal.{metalOk}
 use Rattle.factors.specs.Prover.{pipeOk}
@@ -17,21 +16,32 @@ use Rattle.draw.specs.Fill.{fillAt, fillOk, unnamedOk, ruleOk}
 use Rattle.draw.specs.Passes.{passCount, passVolume}
 use Rattle.draw.specs.Base.{barrelsOf}
 use Rattle.draw.specs.declared.BaseVolume.{BaseVolume}
+use Rattle.promises.specs.Records.{Lent, Every}
 
 -- the volume of the pass at a place from 0; passes count from 1
 unfoldable pub volumeAt : Prover → List ℕ → ℕ → ℕ
 volumeAt prover s i = passVolume prover s (i + 1)
 
--- 'its input .. within limits': 3 to 60 whole records, the metal and the pipe, of every record its fields, its unnamed bytes and the
--- pass rule, and 3 to 20 passes. (A pass has no range of its own.)
-pub record InputWithin (prover : Prover) (s : List ℕ) : Type 0 where
-  pub whole : length s % 32 ≡ 0
-  pub fills : fillsOk (recordsIn 32 s) ≡ true
+-- 1 and 3 don't apply: 3 to 60 whole records are lent, and the metal and the pipe are in range; a draw has no use for the base volume
+pub record SettingsInOrder (prover : Prover) (s : List ℕ) : Type 0 where
+  pub lent : Lent fillsOk 32 s
   pub metal : metalOk (prover .metal) ≡ true
   pub pipe : pipeOk (prover .pipe) ≡ true
-  pub fields : (i : ℕ) → i < recordsIn 32 s → fillOk (fillAt s i) ≡ true
-  pub unnamed : (i : ℕ) → i < recordsIn 32 s → unnamedOk s i ≡ true
-  pub rule : (i : ℕ) → i < recordsIn 32 s → ruleOk s i ≡ true
+
+-- nor do 5, 2 and 6 for the record at place i: its fields, its unnamed bytes and the pass rule
+pub record FillInOrder (s : List ℕ) (i : ℕ) : Type 0 where
+  pub fields : fillOk (fillAt s i) ≡ true
+  pub unnamed : unnamedOk s i ≡ true
+  pub rule : ruleOk s i ≡ true
+
+-- the settings and every record
+pub record FillsInOrder (prover : Prover) (s : List ℕ) : Type 0 where
+  pub settled : SettingsInOrder prover s
+  pub records : Every (recordsIn 32 s) (FillInOrder s)
+
+-- 'its input .. within limits': these, and 3 to 20 passes. (A pass has no range of its own.)
+pub record InputWithin (prover : Prover) (s : List ℕ) : Type 0 where
+  pub fills : FillsInOrder prover s
   pub passes : passesOk (passCount s) ≡ true
 
 -- 'three passes of water, meet the repeatability limit', which is 2: there are three from place `at` on, and their volumes qualify

@@ -1,0 +1,72 @@
+-- The first five runs and the first three passes that meet the limit: what was found, of the factors and volumes by their places.
+use mathlib.Core.Path.{_≡_, refl, ap, _∙_}
+use mathlib.Core.List.{List, [], _∷_}
+use mathlib.Core.Option.{none, some}
+use Prim.Native.Nat.{ℕ, _+_, _≤_, _<_}
+use native.Mathlib.Omega.{arith}
+use lib.ListN.{length, getD}
+use Rattle.factors.specs.declared.Prover.{Prover}
+use Rattle.group.specs.Repeatability.{firstGroup}
+use Rattle.group.specs.Listed.{listed}
+use Rattle.group.proofs.Listed.{listed-value, listed-length}
+use Rattle.group.proofs.Groups.{first-found}
+use Rattle.report.specs.Record.{listOf}
+use Rattle.proving.specs.Judging.{runsIn}
+use Rattle.proving.specs.Job.{factorAt, factorsOf, firstFive, fiveAt}
+use Rattle.draw.specs.Passes.{passCount, passVolume, volumesOf}
+use Rattle.promises.specs.Proving.{FiveMeet}
+use Rattle.promises.specs.WaterDraw.{volumeAt, ThreeMeet}
+use Rattle.promises.proofs.Groups.{Least, first-least, some-found}
+
+module _ (prover : Prover) (k : ℕ) (s : List ℕ) where
+  pub factor-values : (i : ℕ) → i < length (factorsOf prover k s) → getD (factorsOf prover k s) i 0 ≡ factorAt prover k s i
+  unfolding factorsOf
+  factor-values i h = listed-value (factorAt prover k s) (runsIn s) 0 i (omega (arith, listed-length (factorAt prover k s) (runsIn s) 0)) ∙ ap (factorAt prover k s) (omega arith)
+
+  factor-count : length (factorsOf prover k s) ≡ runsIn s
+  unfolding factorsOf
+  factor-count = listed-length (factorAt prover k s) (runsIn s) 0
+
+  -- the report's five are the factors of the five runs
+  pub five-listed : (at : ℕ) → at + 5 ≤ runsIn s → listOf (fiveAt (factorsOf prover k s) at) ≡ listed (factorAt prover k s) 5 at
+  unfolding listOf fiveAt listed
+  five-listed at room =
+      λ i. each at at (omega arith) refl i ∷ each (at + 1) (at + 1) (omega arith) refl i ∷ each (at + 2) (at + 1 + 1) (omega arith) (omega arith) i ∷ each (at + 3) (at + 1 + 1 + 1) (omega arith)
+      (omega arith) i ∷ each (at + 4) (at + 1 + 1 + 1 + 1) (omega arith) (omega arith) i ∷ []
+    where
+      each : (j m : ℕ) → j < runsIn s → j ≡ m → getD (factorsOf prover k s) j 0 ≡ factorAt prover k s m
+      each j m h same = factor-values j (omega (arith, factor-count)) ∙ ap (factorAt prover k s) same
+
+  module _ (limit : ℕ) where
+    -- where no group is found, no five meet the limit
+    pub no-five : firstFive prover k limit s ≡ none → (at : ℕ) → FiveMeet prover k limit s at → ⊥
+    unfolding firstFive
+    no-five is at five = some-found (factorAt prover k s) (factorsOf prover k s) factor-values 5 limit at (omega (arith, five .room, factor-count)) (five .meet) is
+
+    -- where one is, it is the first five that do
+    pub least-five : (at : ℕ) → firstFive prover k limit s ≡ some at → Least (factorAt prover k s) (factorsOf prover k s) factor-values 5 limit at
+    unfolding firstFive
+    least-five at is = first-least (factorAt prover k s) (factorsOf prover k s) factor-values 5 limit (first-found limit 5 (factorsOf prover k s) is)
+
+    pub first-five-meet : (at : ℕ) → firstFive prover k limit s ≡ some at → FiveMeet prover k limit s at
+    first-five-meet at is = let least = least-five at is in record { room = omega (arith, least .room, factor-count); meet = least .meet }
+
+module _ (prover : Prover) (s : List ℕ) where
+  pub volume-count : length (volumesOf prover s) ≡ passCount s
+  unfolding volumesOf
+  volume-count = listed-length (passVolume prover s) (passCount s) 1
+
+  pub volume-values : (i : ℕ) → i < length (volumesOf prover s) → getD (volumesOf prover s) i 0 ≡ volumeAt prover s i
+  unfolding volumesOf volumeAt
+  volume-values i h = listed-value (passVolume prover s) (passCount s) 1 i (omega (arith, listed-length (passVolume prover s) (passCount s) 1)) ∙ ap (passVolume prover s) (omega arith)
+
+  -- where no group is found, no three meet the limit
+  pub no-three : firstGroup 2 3 (volumesOf prover s) ≡ none → (at : ℕ) → ThreeMeet prover s at → ⊥
+  no-three is at three = some-found (volumeAt prover s) (volumesOf prover s) volume-values 3 2 at (omega (arith, three .room, volume-count)) (three .meet) is
+
+  -- where one is, it is the first three that do
+  pub least-three : (at : ℕ) → firstGroup 2 3 (volumesOf prover s) ≡ some at → Least (volumeAt prover s) (volumesOf prover s) volume-values 3 2 at
+  least-three at is = first-least (volumeAt prover s) (volumesOf prover s) volume-values 3 2 (first-found 2 3 (volumesOf prover s) is)
+
+  pub first-three-meet : (at : ℕ) → firstGroup 2 3 (volumesOf prover s) ≡ some at → ThreeMeet prover s at
+  first-three-meet at is = let least = least-three at is in record { room = omega (arith, least .room, volume-count); meet = least .meet }
