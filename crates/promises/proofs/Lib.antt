@@ -10,6 +10,7 @@ pub mod ExactCauses
 pub mod Entries
 pub mod Formulas
 pub mod Jobs
+pub mod RoundTrips
 pub mod OneOutcome
 pub mod GrammarOutcome
 pub mod OneOutcomeC

@@ -7,6 +7,7 @@ pub mod Causes
 pub mod ExactCauses
 pub mod Entries
 pub mod Jobs
+pub mod RoundTrips
 pub mod Outcome
 pub mod OneOutcome
 pub mod Figures

@@ -135,12 +135,14 @@ bytes-back s small long zeros =
     ∙ take-length s
 
 -- what is read back may be written, and is the same report
-read-writable : (r : Report) → reportOk r ≡ true → writeOf 32 (r .number) (r .runs) (r .first) (r .factors) ≡ done r
-unfolding reportOk reportOf
-read-writable r ok =
+pub read-writable : {r : Report} (s : List ℕ) → readOf s ≡ done r → writeOf 32 (r .number) (r .runs) (r .first) (r .factors) ≡ done r
+unfolding isReport reportOk reportOf
+read-writable {r} s is =
+    let got = read-accepts s is in
     let some : Bool = not (eqb (r .number) 0) in
     let job : Bool = jobOk (r .runs) (r .first) (listOf (r .factors)) in
     let mean : Bool = eqb (r .factor) (meanOf (listOf (r .factors))) in
+    let ok : reportOk r ≡ true = ap reportOk (sym (got .2)) ∙ both-first (reportOk (fieldsOf s)) (zeroBetween s 18 32) (got .1) in
     let rest : (job && mean) ≡ true = both-second some (job && mean) ok in
     let holds : meanOf (listOf (r .factors)) ≡ r .factor = sym (eqb-true (r .factor) (meanOf (listOf (r .factors))) (both-second job mean rest)) in
     let numbered = eqb-false (r .number) 0 (not-true (eqb (r .number) 0) (both-first some (job && mean) ok)) in
@@ -152,9 +154,7 @@ pub read-write : {r : Report} (s found : List ℕ) → Bytes s → length found 
 unfolding isReport
 read-write {r} s found small long is =
     let got = read-accepts s is in
-    let whole = got .1 in
-    let ok : reportOk r ≡ true = ap reportOk (sym (got .2)) ∙ both-first (reportOk (fieldsOf s)) (zeroBetween s 18 32) whole in
     ap (λ (n : ℕ). leftBy (writeOf n (r .number) (r .runs) (r .first) (r .factors)) bytesOfReport found) long
-    ∙ ap (λ (t : Told Report). leftBy t bytesOfReport found) (read-writable r ok)
+    ∙ ap (λ (t : Told Report). leftBy t bytesOfReport found) (read-writable s is)
     ∙ ap bytesOfReport (sym (got .2))
-    ∙ bytes-back s small (got .0) (both-second (reportOk (fieldsOf s)) (zeroBetween s 18 32) whole)
+    ∙ bytes-back s small (got .0) (both-second (reportOk (fieldsOf s)) (zeroBetween s 18 32) (got .1))
