@@ -67,6 +67,14 @@ module _ (prover : Prover) (s : List ℕ) (good : Sound prover s) where
   later k zero le h = itself k zero (omega arith)
   later k (suc i) le h = by-cases (decLe k i) (λ below. next k i (later k i below (omega arith)) (rises i h)) (λ above. itself k (suc i) (omega arith))
 
+  -- every fill is of a pass from 1 to the count
+  pub within-count : (i : ℕ) → i < recordsIn 32 s → (1 ≤ fillAt s i .pass) × (fillAt s i .pass ≤ passCount s)
+  unfolding passCount
+  within-count i h = (
+    omega (arith, begins, later 0 i (omega arith) h .on),
+    later i (recordsIn 32 s - 1) (omega arith) (omega (arith, good .some-fills)) .on,
+  )
+
   -- 'all fills of a pass carry one pressure': the pass's
   pub one-pressure : (i : ℕ) → i < recordsIn 32 s → fillAt s i .pressure ≡ passPressure s (fillAt s i .pass)
   unfolding passPressure isOf

@@ -3,7 +3,7 @@ use mathlib.Core.Path.{_≡_, refl, _∙_}
 use mathlib.Core.Bool.{cond}
 use mathlib.Core.Logic.{by-cases}
 use mathlib.Core.List.{List}
-use Prim.Native.Nat.{ℕ, zero, suc, _+_, _-_, _≤_, _<_}
+use Prim.Native.Nat.{ℕ, zero, suc, _+_, _≤_, _<_}
 use native.Mathlib.Decide.{decLt}
 use native.Mathlib.Omega.{arith}
 use borrow.Author.Tests.{eq-eqb, ne-eqb}
@@ -17,7 +17,7 @@ use Rattle.draw.specs.Fill.{fillAt}
 use Rattle.draw.specs.Drawn.{drawn}
 use Rattle.draw.specs.Passes.{passCount, isOf, drawnFor, passSum}
 use Rattle.draw.proofs.Sound.{Sound}
-use Rattle.draw.proofs.Rule.{later, begins}
+use Rattle.draw.proofs.Rule.{within-count}
 
 -- what the fill at a place drew
 unfoldable pub drawnAt : Metal → List ℕ → ℕ → ℕ
@@ -65,10 +65,5 @@ gathered q x c (suc n) i each =
     ∙ omega (arith, once (q i) (x i) c 1 (here .0) (omega (arith, here .1)), gathered q x c n (i + 1) (λ j l h. each j (omega arith) (omega arith)))
 
 pub all-fills-once : (prover : Prover) (s : List ℕ) → Sound prover s → sumOf (listed (passSum (prover .metal) s) (passCount s) 1) ≡ sumOf (listed (drawnAt (prover .metal) s) (recordsIn 32 s) 0)
-unfolding passSum drawnFor isOf drawnAt passCount
-all-fills-once prover s good =
-    let n = recordsIn 32 s in
-    gathered (λ i. fillAt s i .pass) (drawnAt (prover .metal) s) (passCount s) n 0 (λ i l h. (
-      omega (arith, begins prover s good, later prover s good 0 i (omega arith) (omega arith) .on),
-      later prover s good i (n - 1) (omega arith) (omega (arith, good .some-fills)) .on,
-    ))
+unfolding passSum drawnFor isOf drawnAt
+all-fills-once prover s good = gathered (λ i. fillAt s i .pass) (drawnAt (prover .metal) s) (passCount s) (recordsIn 32 s) 0 (λ i l h. within-count prover s good i (omega arith))

@@ -40,9 +40,14 @@ use Rattle.run.specs.declared.Run.{Run}
 use Rattle.run.specs.declared.Figures.{Figures}
 use Rattle.run.proofs.Laws.{RunFits, run-fits, ProverFits, prover-fits}
 use Rattle.draw.specs.Fill.{fillAt, fillOk}
-use Rattle.draw.specs.Drawn.{adjusted, measureCts, proverCts, ccts, drawn, figuresOf as fillFigures}
+use Rattle.draw.specs.Drawn.{measureCts, proverCts, ccts, drawn, figuresOf as fillFigures}
 use Rattle.draw.specs.Passes.{isOf, pressureAt, passPressure, waterAt, correctedVolume, passVolume}
 use Rattle.draw.proofs.Magnitudes.{water-ok}
+use Rattle.draw.specs.Answers.{aloneFault, fillOf}
+use Rattle.draw.specs.declared.FillFigures.{FillFigures}
+use Rattle.draw.proofs.Sound.{Sound, sound, alone-good}
+use Rattle.draw.proofs.Rule.{FillOf, within-count, every-pass, one-pressure}
+use Rattle.draw.proofs.Sums.{all-fills-once}
 use Rattle.draw.specs.Base.{barrelsOf}
 use Rattle.draw.proofs.Fields.{fields}
 use Rattle.ticket.specs.Ranges.{ticketOk}
@@ -63,7 +68,9 @@ use Rattle.factors.specs.declared.Combined.the-variants.{Value as Held, TooMany
 use Rattle.promises.specs.Proving.{Acceptable, Used}
 use Rattle.promises.specs.WaterDraw as water
 use Rattle.promises.specs.WaterDraw.{InputWithin}
-use Rattle.promises.specs.Formulas.{RoundedOnce, RoundedTo, RunRounded, FillRounded, PassRounded, TicketRounded}
+use Rattle.promises.specs.Formulas.{RoundedOnce, RoundedTo, RunRounded, FillRounded, PassRounded, PassesCounted, TicketRounded}
+use Rattle.promises.proofs.Judging.{fills-judged}
+use Rattle.promises.proofs.Signed.{adjusted-above}
 
 once : (n d : ℕ) → 0 < d → RoundedOnce n d (roundedDiv n d)
 once n d h = record { near = nearest n h; only = λ p close. nearest-one close (nearest n h) }
@@ -193,15 +200,22 @@ cts-some metal t m ok =
     at-least _ 1 (omega arith) (omega (arith, parts _ gc (warm t ok)))
 
 pub fill-rounded : (metal : Metal) (s : List ℕ) (i : ℕ) → metalOk metal ≡ true → fillOk (fillAt s i) ≡ true → FillRounded metal s i (fillFigures metal (fillAt s i))
-unfolding fillFigures adjusted measureCts proverCts ccts drawn
+unfolding fillFigures measureCts proverCts ccts drawn
 fill-rounded metal s i m ok =
     record {
-      adjusted-measure = refl;
+      adjusted-measure = adjusted-above s i ok;
       measure-steel = cts-once 6 (Certified (fillAt s i .coefficient)) (fillAt s i .measure);
       prover-steel = cts-once 6 metal (fillAt s i .prover);
       steel-ratio = to 6 _ _ (cts-some metal (fillAt s i .prover) m (fields (fillAt s i) ok .prover));
       drawn-volume = once _ (10 ^ 12) (omega arith);
     }
+
+-- the fill's entry: its record alone
+pub fill-told : (metal : Metal) (s : List ℕ) {f : FillFigures} → fillOf metal s ≡ done f → FillRounded metal s 0 f
+unfolding fillOf
+fill-told metal s is =
+    let ok = alone-good metal s (judged-was (aloneFault metal s) (fillFigures metal (fillAt s 0)) is) in
+    subst (λ (g : FillFigures). FillRounded metal s 0 g) (judged-done (aloneFault metal s) (fillFigures metal (fillAt s 0)) is) (fill-rounded metal s 0 (ok .0) (ok .1))
 
 pipe-some : (pipe : Pipe) (p : ℕ) → pipeOk pipe ≡ true → pressureOk p ≡ true → 0 < cpsAt 6 pipe p
 unfolding cpsAt cps rounded
@@ -231,6 +245,18 @@ pass-rounded prover s input pass =
       pipe-pressure = cps-once 6 (prover .pipe) (passPressure s pass) (input .fills .settled .pipe) ok;
       water-pressure = cpl-once 6 (waterAt (passPressure s pass)) (water-ok (passPressure s pass) ok);
       pass-volume = once _ _ (mul-pos (pipe-some (prover .pipe) (passPressure s pass) (input .fills .settled .pipe) ok) (water-some (passPressure s pass) ok));
+    }
+
+pub passes-counted : (prover : Prover) (s : List ℕ) → InputWithin prover s → PassesCounted prover s
+passes-counted prover s input =
+    let good : Sound prover s = sound prover s (fills-judged prover s .finds-none input) in
+    record {
+      fills-of-passes = within-count prover s good;
+      passes-of-fills = λ pass low high.
+          let fill : FillOf s pass (recordsIn 32 s - 1) = every-pass prover s good pass low high in
+          (fill .place, omega (arith, good .some-fills), fill .is);
+      one-pressure = one-pressure prover s good;
+      fills-once = all-fills-once prover s good;
     }
 
 -- 'the same in barrels (÷ 9702, 4 places)'

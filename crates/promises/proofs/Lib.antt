@@ -8,7 +8,9 @@ pub mod Judging
 pub mod Demand2
 pub mod ExactCauses
 pub mod Entries
+pub mod Signed
 pub mod Formulas
+pub mod EntryFormulas
 pub mod Jobs
 pub mod RoundTrips
 pub mod OneOutcome

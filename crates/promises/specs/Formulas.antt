@@ -3,25 +3,27 @@
 -- the rounded figures before it, and that it is that fraction rounded once.
 use mathlib.Core.Path.{_≡_}
 use mathlib.Core.List.{List, [], _∷_}
-use Prim.Native.Nat.{ℕ, _-_, _*_, _^_}
-use lib.IntN.{pos, natAbs, _+ℤ_}
+use Prim.Native.Nat.{ℕ, _-_, _*_, _^_, _≤_, _<_}
+use lib.IntN.{pos, _+ℤ_}
 use Rattle.exact.specs.Rounding.{Fraction, _over_}
+use Rattle.exact.specs.Words.{sumOf}
 use Rattle.exact.proofs.Rounding.{Nearest}
+use Rattle.octets.specs.Records.{recordsIn}
+use Rattle.group.specs.Listed.{listed}
 use Rattle.factors.specs.Metal.{coefficientOf}
 use Rattle.factors.specs.Fractions.{cts, cps, cpl, combined}
 use Rattle.factors.specs.Rounded.{cpsAt, cplAt}
 use Rattle.factors.specs.declared.Metal.{Metal}
 use Rattle.factors.specs.declared.Prover.{Prover}
-use Rattle.run.specs.Figures.{indicated}
 use Rattle.run.specs.declared.Run.{Run}
 use Rattle.run.specs.declared.Figures.{Figures}
 use Rattle.draw.specs.Fill.{fillAt}
-use Rattle.draw.specs.Drawn.{adjusted, ccts, drawn}
-use Rattle.draw.specs.Passes.{passSum, passPressure, waterCompressibility, waterAt, passVolume}
+use Rattle.draw.specs.Passes.{passCount, passSum, passPressure, waterCompressibility, waterAt, passVolume}
 use Rattle.draw.specs.declared.FillFigures.{FillFigures}
-use Rattle.ticket.specs.Formulas.{factor, gross, net}
+use Rattle.draw.proofs.Sums.{drawnAt}
 use Rattle.ticket.specs.declared.Ticket.{Ticket}
 use Rattle.ticket.specs.declared.Volumes.{Volumes}
+use Rattle.promises.specs.Signed.{AboveZero}
 
 -- 'rounded once, halves upward': q is the whole number nearest to n / d, the upper where two are as near, and no other number is
 pub record RoundedOnce (n d q : ℕ) : Type 0 where
@@ -54,7 +56,7 @@ pub record RunRounded (prover : Prover) (k : ℕ) (run : Run) (f : Figures) : Ty
 -- 01, 'Water draw', of a fill
 pub record FillRounded (metal : Metal) (s : List ℕ) (i : ℕ) (f : FillFigures) : Type 0 where
   -- 'adjusted measure = certified volume + scale reading'
-  pub adjusted-measure : f .adjusted ≡ natAbs (pos (fillAt s i .certified) +ℤ fillAt s i .scale)
+  pub adjusted-measure : AboveZero (pos (fillAt s i .certified) +ℤ fillAt s i .scale) (f .adjusted)
   pub measure-steel : RoundedTo 6 (cts (fillAt s i .measure) (fillAt s i .coefficient)) (f .measure)
   pub prover-steel : RoundedTo 6 (cts (fillAt s i .prover) (coefficientOf metal)) (f .prover)
   -- 'CCTS = rounded measure CTS ÷ rounded prover CTS'
@@ -67,6 +69,14 @@ pub record PassRounded (prover : Prover) (s : List ℕ) (pass : ℕ) : Type 0 wh
   pub pipe-pressure : RoundedTo 6 (cps (passPressure s pass) (prover .pipe .diameter) (prover .pipe .modulus) (prover .pipe .wall)) (cpsAt 6 (prover .pipe) (passPressure s pass))
   pub water-pressure : RoundedTo 6 (cpl waterCompressibility (passPressure s pass)) (cplAt 6 (waterAt (passPressure s pass)))
   pub pass-volume : RoundedOnce (passSum (prover .metal) s pass * 10 ^ 12) (cpsAt 6 (prover .pipe) (passPressure s pass) * cplAt 6 (waterAt (passPressure s pass))) (passVolume prover s pass)
+
+-- 'Passes start at 1 and never go back or skip ..; all fills of a pass carry one pressure': the passes of the formula are 1 to the count and
+-- each has a fill, its pressure is that of each of its fills, and its sum has every fill of the draw once
+pub record PassesCounted (prover : Prover) (s : List ℕ) : Type 0 where
+  pub fills-of-passes : (i : ℕ) → i < recordsIn 32 s → (1 ≤ fillAt s i .pass) × (fillAt s i .pass ≤ passCount s)
+  pub passes-of-fills : (pass : ℕ) → 1 ≤ pass → pass ≤ passCount s → (i : ℕ) × (i < recordsIn 32 s) × (fillAt s i .pass ≡ pass)
+  pub one-pressure : (i : ℕ) → i < recordsIn 32 s → fillAt s i .pressure ≡ passPressure s (fillAt s i .pass)
+  pub fills-once : sumOf (listed (passSum (prover .metal) s) (passCount s) 1) ≡ sumOf (listed (drawnAt (prover .metal) s) (recordsIn 32 s) 0)
 
 -- 01, 'Ticket': every figure is its formula on the rounded figures before it
 pub record TicketRounded (t : Ticket) (v : Volumes) : Type 0 where

@@ -17,7 +17,9 @@ pub mod InPlace
 pub mod InPlaceC
 pub mod Sessions
 pub mod Demand3
+pub mod Signed
 pub mod Formulas
+pub mod EntryFormulas
 pub mod FlatEnding
 pub mod EntriesC
 pub mod Flattened
