@@ -1,7 +1,8 @@
 -- `draw::fill` meets its contract: 1, 3, 5 and 2 in this order, and then the figures.
+use mathlib.Core.Bool.{Bool}
 use mathlib.Core.Path.{_≡_, sym, ap, _∙_}
 use borrow.Author.Needs.{needs}
-use Rattle.refusals.specs.Told.{done, fine}
+use Rattle.refusals.specs.Told.{done, fine, demand, orElse}
 use Rattle.refusals.specs.Verdict.{faultOf}
 use Rattle.refusals.proofs.Laws.{judged-fine, judged-fault}
 use Rattle.draw.specs.Fill.{fillOk}
@@ -14,7 +15,12 @@ abbrev start : tie.After-or-else2 → tie.Start
 start c = c .before .before .before .before .before .before .before
 
 found : (c : tie.After-or-else2) → faultOf (c .or-else2 .result) ≡ aloneFault (start c .args .metal) (start c .args .bytes .now)
-found c = cc
+found c =
+    let r = c .before .before in
+    let m = r .before .before in
+    let three = r .before .demand2 .ensures ∙ ap (λ (b : Bool). demand b 3) (m .is-metal .ensures) in
+    let rest = c .before .or-else .ensures ∙ (λ i. orElse (three i) (r .judge-record .ensures i)) in
+    c .or-else2 .ensures ∙ (λ i. orElse (m .before .demand .ensures i) (rest i))
 
 nothing : (c : tie.After-enum-told) → aloneFault (start (c .before .before) .args .metal) (start (c .before .before) .args .bytes .now) ≡ fine
 nothing c = sym (found (c .before .before)) ∙ ap faultOf (c .enum-told .given .1)

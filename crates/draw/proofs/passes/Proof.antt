@@ -1,12 +1,14 @@
 -- `draw::passes` meets its contract.
 use mathlib.Core.Path.{_≡_, sym, ap, _∙_}
+use Prim.Native.Nat.{ℕ}
 use native.Mathlib.Omega.{arith}
 use borrow.Author.Needs.{needs}
-use Rattle.refusals.specs.Told.{fine}
+use Rattle.refusals.specs.Told.{done, fine}
 use Rattle.refusals.specs.Verdict.{faultOf}
 use Rattle.refusals.proofs.Laws.{judged-fine, judged-fault}
 use Rattle.octets.specs.Records.{zerosAfter}
-use Rattle.draw.specs.Passes.{passCount, volumesOf}
+use Rattle.group.specs.Listed.{listed}
+use Rattle.draw.specs.Passes.{passCount, passVolume, volumesOf}
 use Rattle.draw.specs.Answers.{drawFault, passesOf}
 use Rattle.draw.proofs.Sound.{Sound, sound}
 use Rattle.draw.proofs.Outcome.{held-by}
@@ -27,7 +29,9 @@ returns c =
     let e = c .before .before in
     let is = judged-fine (passCount (start e .args .records .now)) (nothing e) in
     let held = held-by (start e .args .prover) (start e .args .records .now) is in
-    ((cc), (cc))
+    let counted = c .before .count-passes .ensures in
+    let volumes = c .collect .ensures ∙ ap (λ (n : ℕ). zerosAfter 20 (listed (passVolume (start e .args .prover) (start e .args .records .now)) n 1)) counted in
+    (ap done counted ∙ sym is, volumes ∙ sym held)
 
 returns-2 : tie.Need-returns-2
 unfolding passesOf zerosAfter

@@ -1,6 +1,6 @@
 -- `draw::passing::collect` meets its contract. The loop's invariant: the array holds the volumes of the passes 1 to i, and zeros after them.
 use mathlib.Core.Path.{_≡_, refl, ap, _∙_}
-use Prim.Native.Nat.{_-_, _≤_}
+use Prim.Native.Nat.{ℕ, _-_, _≤_}
 use native.Mathlib.Omega.{arith}
 use borrow.Author.Needs.{needs}
 use Rattle.octets.specs.Records.{zerosAfter}
@@ -23,8 +23,10 @@ loop-again c =
 
 returns : tie.Need-returns Inv-loop μ-loop
 returns c =
-    let all : c .before .loop .i ≡ c .before .before .before .args .count = omega (arith, c .before .loop .inv) in
-    cc
+    let l = c .before in
+    let a = l .before .before .args in
+    let all : l .loop .i ≡ a .count = omega (arith, l .loop .inv) in
+    l .loop .inv .1 ∙ ap (λ (n : ℕ). zerosAfter 20 (listed (passVolume (a .prover) (a .s .now)) n 1)) all
 
 pub collect-spec : {M : Type 1} → Rattle.draw.proofs.passing.collect.Statement.statement M
 unfolding listed zerosAfter

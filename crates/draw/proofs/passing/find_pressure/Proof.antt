@@ -10,6 +10,7 @@ use Rattle.octets.proofs.FirstToLast.{places, start, done, place-hit, place-nex
 use Rattle.draw.specs.Fill.{fillAt}
 use Rattle.octets.specs.Records.{recordsIn}
 use Rattle.draw.specs.Passes.{passPressure, pressureAt, isOf}
+use Rattle.draw.specs.declared.FillRecord.{FillRecord}
 use Rattle.draw.proofs.Fields.{fields}
 use Rattle.draw.proofs.Volumes.{of-pass, not-of-pass}
 use Rattle.draw.proofs.passing.find_pressure.Tie as tie
@@ -30,7 +31,7 @@ returns c =
     let records = a .s .now in
     let h : l .loop .i < length records / 32 = omega arith in
     let place = place-hit (isOf records (a .pass)) (length records / 32) (l .loop .i) h (of-pass records (l .loop .i) (d .decode .ensures) (c .if1 .taken)) (l .loop .inv) in
-    (rw place (cc), rw (d .decode .ensures) (fields (fillAt records (l .loop .i)) (s .pre .1 (l .loop .i) h) .pressure))
+    (rw place (ap (λ (f : FillRecord). f .pressure) (d .decode .ensures)), rw (d .decode .ensures) (fields (fillAt records (l .loop .i)) (s .pre .1 (l .loop .i) h) .pressure))
 
 loop-again : tie.Need-loop-again Inv-loop μ-loop
 loop-again c =

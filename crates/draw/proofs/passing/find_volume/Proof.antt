@@ -1,5 +1,6 @@
 -- `draw::passing::find_volume` meets its contract.
-use Rattle.draw.specs.Passes.{passVolume}
+use mathlib.Core.Path.{_∙_}
+use Rattle.draw.specs.Passes.{correctedVolume, passVolume}
 use Rattle.draw.proofs.Sound.{Sound, sound}
 use Rattle.draw.proofs.passing.find_volume.Tie as tie
 
@@ -8,7 +9,10 @@ good c = sound (c .args .prover) (c .args .s .now) (c .pre)
 
 returns : tie.Need-returns
 unfolding passVolume
-returns c = cc
+returns c =
+    let p = c .before .before in
+    let pipe = p .before .before .before .args .prover .pipe in
+    c .correct .ensures ∙ (λ i. correctedVolume pipe (p .find-pressure .ensures .0 i) (c .before .add-up .ensures .0 i))
 
 pub find-volume-spec : {M : Type 1} → Rattle.draw.proofs.passing.find_volume.Statement.statement M
 find-volume-spec =
