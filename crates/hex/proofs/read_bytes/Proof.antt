@@ -85,5 +85,5 @@ returns-3 c =
 pub read-bytes-spec : {M : Type 1} → Rattle.hex.proofs.read_bytes.Statement.statement M
 read-bytes-spec =
     tie.close
-    (tie.spec Inv-loop μ-loop (search needs) returns returns-2 loop-holds (search needs) (search needs) (search needs) (search needs) (search needs)
-    (search needs) (search needs) (search needs) slice-write-into (search needs) (search needs) loop-again same-length returns-3)
+    (tie.spec Inv-loop μ-loop (search needs) returns returns-2 loop-holds (search needs) (λ c. omega arith) (search needs) (search needs) (search needs)
+    (λ c. omega arith) (search needs) (search needs) slice-write-into (search needs) (λ c. omega arith) loop-again same-length returns-3)

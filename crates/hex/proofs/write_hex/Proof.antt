@@ -75,6 +75,6 @@ returns-3 c =
 pub write-hex-spec : {M : Type 1} → Rattle.hex.proofs.write_hex.Statement.statement M
 write-hex-spec =
     tie.close
-    (tie.spec Inv-loop μ-loop returns (search needs) returns-2 loop-holds (search needs) (search needs) (search needs) (search needs) (search needs)
-    (search needs) slice-write-out (search needs) slice-write-out-2 (search needs) (search needs) loop-again (search needs) (search needs) same-length
-    returns-3)
+    (tie.spec Inv-loop μ-loop returns (search needs) returns-2 loop-holds (λ c. omega arith) (search needs) (λ c. omega arith) (search needs)
+    (search needs) (search needs) slice-write-out (search needs) slice-write-out-2 (search needs) (λ c. omega arith) loop-again (search needs)
+    (search needs) same-length returns-3)

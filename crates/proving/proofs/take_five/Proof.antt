@@ -28,5 +28,6 @@ returns c = refl
 pub take-five-spec : {M : Type 1} → Rattle.proving.proofs.take_five.Statement.statement M
 take-five-spec =
     tie.close
-    (tie.spec (search needs) (search needs) cast-t8 (search needs) (search needs) (search needs) cast-t14 (search needs) (search needs) (search needs)
-    cast-t20 (search needs) (search needs) (search needs) cast-t26 (search needs) (search needs) (search needs) cast-t32 returns)
+    (tie.spec (search needs) (λ c. omega (arith, c .pre .0)) cast-t8 (search needs) (search needs) (λ c. omega (arith, c .pre .0)) cast-t14 (search needs)
+    (search needs) (λ c. omega (arith, c .pre .0)) cast-t20 (search needs) (search needs) (λ c. omega (arith, c .pre .0)) cast-t26 (search needs)
+    (search needs) (λ c. omega (arith, c .pre .0)) cast-t32 returns)

@@ -95,4 +95,4 @@ find-figures-spec =
     tie.close
     (tie.spec (search needs) (search needs) (search needs) (search needs) (λ c κs. runs c .prover .liquid) (search needs) (search needs)
     (search needs) correct-requires (λ c κs. runs (steel (c .before)) .meter .liquid) (search needs) (search needs) correct-requires-2 (search needs)
-    (search needs) (search needs) returns)
+    (search needs) (λ c κs. omega (arith, proved c .correct .ensures .1)) returns)

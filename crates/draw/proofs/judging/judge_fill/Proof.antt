@@ -17,4 +17,6 @@ returns c =
     c .or-else .ensures ∙ (λ i. orElse (r .judge-record .ensures i) (six i))
 
 pub judge-fill-spec : {M : Type 1} → Rattle.draw.proofs.judging.judge_fill.Statement.statement M
-judge-fill-spec = tie.close (tie.spec (search needs) (search needs) (search needs) (search needs) (search needs) (search needs) returns)
+judge-fill-spec =
+    tie.close
+    (tie.spec (search needs) (search needs) (λ c κs. c .before .pre) (λ c κs. c .before .before .pre) (search needs) (search needs) returns)

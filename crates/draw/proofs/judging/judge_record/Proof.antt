@@ -21,4 +21,5 @@ returns c =
 pub judge-record-spec : {M : Type 1} → Rattle.draw.proofs.judging.judge_record.Statement.statement M
 judge-record-spec =
     tie.close
-    (tie.spec (search needs) (search needs) (search needs) (search needs) (search needs) (search needs) (search needs) (search needs) returns)
+    (tie.spec (search needs) (search needs) (λ c κs. c .before .pre) (search needs) (search needs) (λ c κs. c .before .before .before .before .pre)
+    (search needs) (search needs) returns)
