@@ -62,18 +62,21 @@ def parser():
 
     live = command("live", commands.live, "a live reading: singles to tenths and psi", helps.LIVE)
     job_of(live)
+    writes(live, "--html", "OUT.html", "write the reading for print, one sheet of Letter or A4")
 
     read = command("read", commands.read, "a report record read back", helps.READ)
     source = read.add_mutually_exclusive_group(required=True)
     source.add_argument("record", nargs="?", metavar="RECORD", help="the record's file, as prove --record writes it")
     source.add_argument("--hex", metavar="BYTES", help="the record's bytes in hex instead")
+    writes(read, "--html", "OUT.html", "write what it says for print, one sheet of Letter or A4")
 
     book = command("book", commands.book, "a session with the book of waiting requests", helps.BOOK)
     book.add_argument("session", nargs="?", metavar="SESSION.txt", help="the steps, a line each; else the keyboard")
     book.add_argument("--keep", metavar="FILE", help="go on from the book of FILE, and keep it there")
 
     rework = command("rework", commands.rework_jobs, "many jobs: a CSV of results", helps.REWORK)
-    rework.add_argument("jobs", metavar="JOBS", nargs="+", help="folders of job files, or job files")
+    about = "folders of job files, or job files; - is standard input"
+    rework.add_argument("jobs", metavar="JOBS", nargs="+", help=about)
     rework.add_argument("--recursive", action="store_true", help="go into the folders inside too")
     seconds = {"type": seconds_of, "metavar": "SECONDS", "default": 30}
     rework.add_argument("--patience", help="how long a file may take before it is skipped (30)", **seconds)

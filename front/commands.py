@@ -4,11 +4,12 @@ import os
 import sys
 
 from . import book as books
-from . import as_json, figures, jobs, outputs, page, pages, plot, report_record, rework, short_pages, steps, suffixes
-from . import templates
+from . import as_json, figures, html_page, jobs, outputs, page, pages, plot, report_record, rework, short_pages, steps
+from . import suffixes, templates
 from . import verify as verifying
 from . import workbook, worksheets
 from . import worked as works
+from .badfile import BadFile
 from .hints import plain
 from .jobfiles import NAMES
 from .kept_book import KeptBook, NoBook
@@ -78,20 +79,22 @@ prove, draw, ticket, live = (job(kind) for kind in ("prove", "draw", "ticket", "
 
 def read(options, program):
     given = options.hex is not None
+    outputs.check([] if given else [options.record], options.places, options.force)
     record = report_record.from_hex(options.hex) if given else report_record.from_file(options.record)
     name = "--hex" if given else plain(NAMES.get(options.record, options.record))
+    told = explained = None
     try:
         told = figures.read(record, program)
     except Refused as refused:
         explained = report_record.explain(record, refused.refusal)
-        if options.json:
-            tell(as_json.record(name, record, explained=explained))
-        return refuse(name, explained)
+    shown = short_pages.read(name, record, told, explained)
+    if options.html:
+        outputs.write(options.html, html_page.render(shown))
     if options.json:
-        tell(as_json.record(name, record, told))
-    else:
-        show(options, short_pages.read(name, record, told))
-    return DONE
+        tell(as_json.record(name, record, told, explained))
+    elif told:
+        show(options, shown)
+    return refuse(name, explained) if explained else DONE
 
 
 def book(options, program):
@@ -127,6 +130,8 @@ def rework_jobs(options, program):
 
 def verify(options, program):
     """0 the report is the job's, 1 it is not or has been changed."""
+    if options.report == options.job == outputs.STANDARD:
+        raise BadFile(NAMES[options.job], "", "is read once: expected a file for the report or for the job")
     job = jobs.read(options.job)
     outcome, words = verifying.verify(options.report, job, program)
     if options.json:

@@ -6,6 +6,10 @@ from dataclasses import dataclass
 from . import as_json, outputs, pages, plot
 from . import worked as works
 from .badfile import BadFile
+from .outputs import STANDARD
+
+# What the page of a job from standard input is called.
+UNNAMED = "standard-input"
 
 
 @dataclass(frozen=True)
@@ -18,7 +22,8 @@ class Extras:
 
     def place(self, path, ending):
         """Where a job's page or plot goes. Only .toml is left out, so that no two files have one name."""
-        return os.path.join(self.reports, os.path.relpath(path, self.base).removesuffix(".toml") + ending)
+        name = UNNAMED if path == STANDARD else os.path.relpath(path, self.base).removesuffix(".toml")
+        return os.path.join(self.reports, name + ending)
 
     def places(self, paths):
         """All files that may be written, for the check that none of them costs anything."""
@@ -39,7 +44,8 @@ class Extras:
 
 def of(options, paths):
     """The extras that a command asks for; each output is held against the inputs before anything is written."""
-    base = os.path.commonpath([os.path.abspath(os.path.dirname(path) or ".") for path in paths])
+    folders = [os.path.abspath(os.path.dirname(path) or ".") for path in paths if path != STANDARD]
+    base = os.path.commonpath(folders) if folders else ""
     wanted = Extras(options.json, options.reports and os.path.abspath(options.reports), base)
     if wanted.reports and os.path.exists(wanted.reports) and not os.path.isdir(wanted.reports):
         raise BadFile(options.reports, "--reports", "is a file: expected a folder")

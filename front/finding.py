@@ -1,4 +1,5 @@
-"""Which job files are worked: those named, and those of the folders named. What of a folder is left out is said."""
+"""Which job files are worked: those named, `-` among them, and those of the folders named. What of a folder is left
+out is said."""
 
 import os
 import stat
@@ -6,6 +7,7 @@ from collections import Counter
 from dataclasses import dataclass, field
 
 from .badfile import BadFile
+from .outputs import STANDARD
 
 SUFFIX = ".toml"
 FOLDERS = "folders inside (--recursive goes into them)"
@@ -30,7 +32,9 @@ class Found:
 def find(places, recursive):
     found = Found()
     for place in places:
-        if os.path.isdir(place):
+        if place == STANDARD:
+            found.add(place)
+        elif os.path.isdir(place):
             of_folder(place, recursive, found)
         elif os.path.lexists(place):
             found.add(place, why_not(place))
@@ -41,7 +45,7 @@ def find(places, recursive):
     once = {}
     for path in found.paths:
         # A file that is named, and is in a folder that is named too, is one.
-        once.setdefault(os.path.abspath(path), path)
+        once.setdefault(path if path == STANDARD else os.path.abspath(path), path)
     found.paths = list(once.values())
     return found
 

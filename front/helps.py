@@ -108,12 +108,13 @@ LINES = """\
 Runs the line program on standard input and output, once it is built: docs/LINES.md has its lines. Every
 figure that the other commands show is an answer of it."""
 REWORK = """\
-Works every *.toml of the folders, and every file named, of any kind, on all cores. Each job is a row of the
-CSV: its headings, settings, figures, refusal, the file's SHA-256 and the version. Each refusal and bad file
-is a line, and each meter one at the end. What cannot be read, is a pipe or takes too long is skipped with a
-line; a request number that comes twice is remarked on. Ctrl-C ends after the jobs in hand and the rows
-worked stay; a second Ctrl-C ends at once and writes nothing. Exits 0 when all were accepted, 1 when one was
-refused, 2 when a file was bad or skipped, 3 on an unexpected error, 130 after Ctrl-C."""
+Works every *.toml of the folders, and every file named, of any kind, on all cores; - is a job file from
+standard input. Each job is a row of the CSV: its headings, settings, figures, refusal, the file's SHA-256 and
+the version. Each refusal and bad file is a line, and each meter one at the end. What cannot be read, is a
+pipe or takes too long is skipped with a line; a request number that comes twice is remarked on. Ctrl-C ends
+after the jobs in hand and the rows worked stay; a second Ctrl-C ends at once and writes nothing. Exits 0 when
+all were accepted, 1 when one was refused, 2 when a file was bad or skipped, 3 on an unexpected error, 130
+after Ctrl-C."""
 VERIFY = """\
 Says whether a report is of a job: a page as text or for print, a plot, a worksheet or workbook, JSON, a
 report record, or a CSV of rework's. It must carry the job file's SHA-256 (a record has none and is compared),

@@ -4,7 +4,7 @@ from string import Template
 from xml.sax.saxutils import escape
 
 from . import version
-from .html_fit import LONGEST_IN_HALF, PLOT, WIDTH, fit
+from .html_fit import LONGEST_IN_HALF, PLOT, WIDTH, Parts, fit
 from .page import Blanks, Grid, Notes, Octets, Pairs, Section, Signatures
 from .plot import words
 
@@ -30,7 +30,7 @@ dd { margin: 0; overflow-wrap: anywhere; min-width: 0 }
 .blanks span { flex: 0 0 12.5em; color: #444 }
 .blanks i, .signatures i { flex: 1; border-bottom: 0.15mm solid #111; height: 1.3em }
 .tables { display: flex; gap: 4mm; align-items: flex-start }
-table { border-collapse: collapse; margin: 0.3em 0; white-space: nowrap; width: 100% }
+table { border-collapse: collapse; margin: 0.3em 0; white-space: nowrap; width: 100%; line-height: ${row} }
 .tables table { width: auto }
 th { font-weight: normal; color: #444; text-align: right; padding: 0 0 0 0.55em }
 th.group { text-align: center; border-bottom: 0.1mm solid #888 }
@@ -38,11 +38,14 @@ td { text-align: right; padding: 0 0 0 0.55em }
 .first { padding-left: 1.1em }
 .mark { width: 1%; padding-left: 0.3em }
 tbody { border-top: 0.2mm solid #111; border-bottom: 0.2mm solid #111 }
+tbody tr:first-child td, tfoot td { padding-top: 0.2em }
+tbody tr:last-child td { padding-bottom: 0.15em }
 tr.marked td { font-weight: bold }
 p { margin: 0.1em 0; color: #444 }
 code { font: 0.92em "Liberation Mono", "DejaVu Sans Mono", monospace; overflow-wrap: anywhere }
 .conclusion { display: flex; gap: 3mm; break-inside: avoid }
 .conclusion > div { flex: 1; min-width: 0 }
+.conclusion > .side { flex: 0 0 ${side}mm }
 figure { margin: 0.4em 0 0; flex: 0 0 ${plot}mm }
 svg { width: 100%; height: auto; display: block }
 .signatures { display: flex; gap: 5mm; margin-top: 3em; break-inside: avoid }
@@ -118,7 +121,7 @@ def parted(blocks):
         end -= 1
     elif isinstance(blocks[-1], Signatures):
         end -= 1
-    return blocks[: last + 1], blocks[last + 1 : end], blocks[end:]
+    return Parts(blocks[: last + 1], [], blocks[last + 1 : end], blocks[end:])
 
 
 def upper(blocks, beside):
@@ -133,16 +136,16 @@ def upper(blocks, beside):
 
 def render(page, picture=None):
     """The file's text; `picture` is a plot as SVG."""
-    parts = parted(page.blocks)
-    above, conclusion, rest = parts
-    shape = fit(parts, page.verdict, bool(picture))
-    style = STYLE.substitute(width=WIDTH, size=shape.size, plot=PLOT)
+    shape = fit(parted(page.blocks), page.verdict, bool(picture))
+    parts = shape.parts
+    style = STYLE.substitute(width=WIDTH, size=shape.size, row=shape.row, side=shape.side, plot=PLOT)
     verdict = ""
     if page.verdict:
         about = "".join(f"<div>{words(line)}</div>" for line in page.verdict[1:])
         verdict = f'<div class="verdict"><b>{words(page.words_of_verdict)}</b>{about}</div>'
+    side = f'<div class="side">{rendered(parts.side)}</div>' if parts.side else ""
     figure = f"<figure>{picture}</figure>" if picture else ""
-    concluded = f"<div>{rendered(conclusion)}</div>{figure}"
+    concluded = f"{side}<div>{rendered(parts.conclusion)}</div>{figure}"
     return f"""<!DOCTYPE html>
 <html lang="en">
 <head>
@@ -154,9 +157,9 @@ def render(page, picture=None):
 <body>
 <header><h1>{words(page.title)}</h1><span>{words(page.right)}</span></header>
 {verdict}
-{upper(above, shape.beside)}
-<div class="{"conclusion" if picture else ""}">{concluded}</div>
-{rendered(rest)}
+{upper(parts.above, shape.beside)}
+<div class="{"conclusion" if picture or side else ""}">{concluded}</div>
+{rendered(parts.rest)}
 </body>
 </html>
 """

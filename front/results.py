@@ -8,6 +8,7 @@ from .badfile import BadFile
 from .fields import LIMIT
 from .hints import plain
 from .jobfiles import octets_of
+from .outputs import STANDARD
 from .program import Refused
 from .sheet import text
 from .spreads import SPREAD
@@ -46,6 +47,9 @@ def of_job(path, job, program, extras):
 
 
 def digest_of(path):
+    """The digest of a file that holds no job; standard input cannot be read again."""
+    if path == STANDARD:
+        return ""
     try:
         return sha256(octets_of(path)).hexdigest()
     except BadFile:

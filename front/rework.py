@@ -6,10 +6,11 @@ import os
 import signal
 import sys
 
-from . import as_json, extras, outputs
+from . import as_json, extras, outputs, results
 from .crew import IN_HAND, Crew
 from .finding import find
 from .hints import plain
+from .jobfiles import NAMES
 from .meters import Meters
 from .program import ProgramFailed
 from .results import ACCEPTED, BAD, COLUMNS, REFUSED, SKIPPED, cells
@@ -44,6 +45,8 @@ def rework(options, program):
     outputs.check(found.paths, options.places, options.force)
     wanted = extras.of(options, found.paths)
     program.ready()
+    # Standard input is this process's own, and may come from a keyboard: it is read before anything is begun.
+    given = {path: results.worked(path, program, wanted) for path in found.paths if path == outputs.STANDARD}
     out = sys.stderr if options.json or options.csv == outputs.STANDARD else sys.stdout
     count = min(len(os.sched_getaffinity(0)), 1 + len(found.paths) // IN_HAND)
     with outputs.opened(options.csv) as octets, Stop() as stop, Crew(count, options.patience, wanted) as crew:
@@ -52,7 +55,7 @@ def rework(options, program):
         ticker = Ticker(len(found.paths), "jobs", sys.stderr, out)
         book = Sheet(file, ticker, options.jobs, options.json)
         try:
-            book.fill(found, crew, stop)
+            book.fill(found, given, crew, stop)
         finally:
             ticker.end()
         # Only now is it known which other files the jobs name.
@@ -74,8 +77,9 @@ class Sheet:
         self.requests, self.files, self.meters, self.unexpected = {}, set(), Meters(), False
         self.rows.writerow(COLUMNS)
 
-    def fill(self, found, crew, stop):
-        known = {path: {"outcome": SKIPPED, "words": why} for path, why in found.skipped.items()}
+    def fill(self, found, given, crew, stop):
+        """`given` are rows that are there already."""
+        known = given | {path: {"outcome": SKIPPED, "words": why} for path, why in found.skipped.items()}
         asked = [path for path in found.paths if path not in known]
         wanted = iter(found.paths)
         following = next(wanted, None)
@@ -91,6 +95,7 @@ class Sheet:
                 self.write(path, known[path])
 
     def write(self, path, row):
+        path = NAMES.get(path, path)
         name = path.removeprefix(self.base)
         request = row.get("request")
         if request in self.requests:

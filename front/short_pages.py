@@ -1,8 +1,9 @@
 """The short pages: a measurement ticket, a live reading, a report record read back."""
 
-from . import fields, page
+from . import fields, page, version
 from .fields import FACTOR, LIVE, READING, TICKET
 from .page import Page, Pairs, Section, Signatures
+from .records import LENGTH
 from .units import shown
 
 TICKET_LABELS = {
@@ -47,15 +48,19 @@ def live_words(answer):
     return ", ".join(field.text(count) for field, count in zip(LIVE.values(), answer))
 
 
-def read(name, record, told):
+def read(name, record, told, refusal=None):
+    """A record read back; of one that is no report only its bytes."""
+    rows = [("Record", name), ("Worked by", version.NAME), *(fields_of(told) if told else ())]
+    blocks = [Pairs([*rows, ("Bytes", record[: LENGTH + 1].hex(" "))])]
+    return Page("REPORT RECORD", "read back", blocks, page.verdict(refusal))
+
+
+def fields_of(told):
     numbers = range(told["first"], told["first"] + fields.GROUP_OF_RUNS)
     factors = [shown(factor, FACTOR.places) for factor in told["five"]]
-    rows = [
-        ("Record", name),
+    return [
         ("Request number", str(told["request"])),
         ("Meter factor", shown(told["factor"], FACTOR.places)),
         ("Accepted runs", f"{numbers[0]} to {numbers[-1]} of {told['runs']}"),
         *((f"Run factor, run {number}", factor) for number, factor in zip(numbers, factors)),
-        ("Bytes", record.hex(" ")),
     ]
-    return Page("REPORT RECORD", "read back", [Pairs(rows)])

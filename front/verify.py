@@ -15,7 +15,7 @@ from . import worked as works
 from .badfile import BadFile
 from .extras import Extras
 from .hints import echo, plain
-from .jobfiles import octets_of
+from .jobfiles import NAMES, octets_of
 from .records import LENGTH
 
 SAME, OTHER, CHANGED = "same", "other job", "changed"
@@ -105,16 +105,16 @@ def digests(octets):
 
 def verify(report, job, program):
     """What a report is to a job: same, other job or changed, and the words for it."""
-    octets = octets_of(report)
+    octets, name = octets_of(report), NAMES.get(report, report)
     worked = works.work(job, program)
     if len(octets) == LENGTH:
         same = job.kind == "prove" and worked.answer and worked.answer.record == octets
         return (SAME, "is that job's record") if same else (OTHER, "is not that job's record")
     if octets.startswith(b"PK") and not workbook.library():
-        raise BadFile(report, "", f"cannot be compared: {workbook.MISSING}")
+        raise BadFile(name, "", f"cannot be compared: {workbook.MISSING}")
     found = digests(octets)
     if not found:
-        raise BadFile(report, "", "carries no SHA-256 of a job file: expected what endakuro has written")
+        raise BadFile(name, "", "carries no SHA-256 of a job file: expected what endakuro has written")
     if job.digest not in found:
         return OTHER, f"is not that job's: it is of the job file with SHA-256 {found[0]}, that job's is {job.digest}"
     difference = compared(octets, worked, program)
@@ -154,4 +154,4 @@ def row_compared(octets, job, program):
 
 
 def line(report, words):
-    return f"{plain(report)}: {words}"
+    return f"{plain(NAMES.get(report, report))}: {words}"

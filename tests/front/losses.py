@@ -148,6 +148,11 @@ def standard(tally, place):
     tally.holds(out, "Job file                  standard input", "a ticket from standard input")
     status, out, err = run("ticket", "-", given="[ticket]\nopening = 1\n")
     tally.check(status == 2 and err.startswith("standard input: line 1: [ticket], closing"), f"a bad one: {err!r}")
+    told = "standard input: is read once: expected a file for the report or for the job\n"
+    tally.same(run("verify", "-", "-", given=JOB.decode()), (2, "", told), "standard input twice")
+    page = run("ticket", EXAMPLES / "ticket.toml")[1]
+    status, out, _ = run("verify", "-", EXAMPLES / "ticket.toml", given=page)
+    tally.check(status == 0 and out.startswith("standard input: is that job's"), f"a page from standard input: {out!r}")
     done = subprocess.run([str(LAUNCHER), "read", "-"], input=RECORD, capture_output=True)
     tally.check(done.returncode == 0 and b"1.0002" in done.stdout, f"a record from standard input: {done.stderr!r}")
 

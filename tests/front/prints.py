@@ -15,6 +15,8 @@ EXAMPLES = ROOT / "examples"
 PAPERS = {"Letter": "(letter)", "A4": "(A4)"}
 # So many jobs are printed on both.
 BOTH = 5
+# Letters of 5 points, in millimetres, also where runs, fills and texts are at their most.
+LEAST = 1.76
 FIGURE = re.compile(r"\d[\d.,]*\d|\d")
 # What a page that is one file does not have: anything to fetch or to run.
 FETCHED = ("src=", "href=", "url(", "@import", "<link", "<script", "<iframe", "<object", "<img")
@@ -41,7 +43,7 @@ def figures_of(text):
 
 def jobs(folder):
     """Jobs of each kind: plain, refused, the widest, the longest."""
-    for name in ("figure-5", "figure-6", "water-draw", "ticket"):
+    for name in ("figure-5", "figure-6", "water-draw", "ticket", "live"):
         yield EXAMPLES / f"{name}.toml"
     for name in ("prove-09-runs-drift", "draw-09-passes-drift"):
         yield EXAMPLES / "refusals" / f"{name}.toml"
@@ -56,13 +58,15 @@ def jobs(folder):
 
 
 def printed(tally, number, path, folder):
-    kind = "ticket" if "ticket" in path.name else "draw" if "[[fill]]" in path.read_text() else "prove"
+    kind = path.stem if path.stem in ("ticket", "live") else "draw" if "[[fill]]" in path.read_text() else "prove"
     out = folder / "page.html"
     status, text, _ = called(kind, path, "--html", out, "--force")
     page = out.read_text()
     tally.check(text.strip() and "<!DOCTYPE html>" in page, f"{path.name}: no page")
     for word in FETCHED:
         tally.check(word not in page, f"{path.name}: {word} in the page")
+    size = float(re.search(r"font: ([\d.]+)mm", page)[1])
+    tally.check(size >= LEAST, f"{path.name}: letters of {size} mm")
     tally.same("NOT ACCEPTED: refused 9" in page, status == 1, f"{path.name}: verdict")
     # Their widths are the same; A4 is the longer.
     for paper, size in list(PAPERS.items())[: 2 if number < BOTH else 1]:
@@ -88,6 +92,20 @@ def refused(tally, folder):
         tally.holds(on_paper, words, "a refusal without figures")
 
 
+def read_back(tally, folder):
+    """A record's page, and that of one that is no report."""
+    out = folder / "record.html"
+    good = (EXAMPLES / "report-7.record").read_bytes()
+    for record, expected, words in (
+        (good, 0, "1.0005"), (good[:4] + bytes(28), 1, "NOT ACCEPTED: refused 15: not a report"),
+    ):  # fmt: skip
+        status, text, _ = called("read", "--hex", record.hex(), "--html", out, "--force")
+        sheets, _, on_paper = pdf_of(out.read_text(), "Letter", folder)
+        tally.same((status, sheets), (expected, 1), "a record: sheets")
+        tally.holds(on_paper, words, "a record")
+        tally.same(dict(figures_of(text) - figures_of(on_paper)), {}, "a record: figures that are missing")
+
+
 def test():
     tally = Tally("pages printed by Chromium")
     debian.install("chromium", "pdftotext")
@@ -95,4 +113,5 @@ def test():
         for number, path in enumerate(jobs(Path(folder))):
             printed(tally, number, path, Path(folder))
         refused(tally, Path(folder))
+        read_back(tally, Path(folder))
     return tally

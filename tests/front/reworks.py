@@ -138,6 +138,27 @@ def places(tally, folder):
         tally.same((status, err, (folder / "x.csv").exists()), (2, told, False), "a place that is not there")
 
 
+def from_input(tally, folder):
+    """A job from standard input stands in its place among the others; its page has a name of its own."""
+    text = (EXAMPLES / "ticket.toml").read_text()
+    (folder / "a.toml").write_text(text)
+    reports = folder / "pages"
+    status, out, err = run("rework", folder / "a.toml", "-", "-", "--csv", "-", "--reports", reports, given=text)
+    rows = list(csv.DictReader(io.StringIO(out.removeprefix("\ufeff"))))
+    tally.same((status, [row["file"] for row in rows]), (0, [str(folder / "a.toml"), "standard input"]), "-")
+    tally.same({row["SHA-256"] for row in rows}, {sha256(text.encode()).hexdigest()}, "-: SHA-256")
+    pages = sorted(path.name for path in reports.iterdir())
+    tally.same(pages, ["a.html", "standard-input.html"], "-: pages")
+    tally.holds((reports / "standard-input.html").read_text(), "<dd>standard input</dd>", "-: its page")
+    status, out, err = run("rework", "-", "--csv", folder / "x.csv", given="[ticket]\nopening = 1\n")
+    tally.same((status, rows_of(folder / "x.csv")[0]["SHA-256"]), (2, ""), "-: a bad file")
+    tally.holds(err + out, "standard input: line 1: [ticket], closing", "-: a bad file")
+    with open(folder / "a.toml") as given:
+        command = [str(LAUNCHER), "rework", "-", "--csv", str(folder / "a.toml"), "--force"]
+        done = subprocess.run(command, stdin=given, capture_output=True, text=True)
+    tally.same((done.returncode, (folder / "a.toml").read_text()), (2, text), "-: results onto it")
+
+
 def terminal(tally, folder, files):
     command = [str(LAUNCHER), "rework", str(folder), "--csv", str(folder / "out.csv"), "--force"]
     status, shown = at_terminal(command)
@@ -179,7 +200,7 @@ def test():
     with tempfile.TemporaryDirectory() as folder:
         files = mixed(tally, Path(folder))
         terminal(tally, Path(folder), files)
-    for part in (headings, places, statuses, interrupted):
+    for part in (headings, places, from_input, statuses, interrupted):
         with tempfile.TemporaryDirectory() as folder:
             part(tally, Path(folder))
     return tally
