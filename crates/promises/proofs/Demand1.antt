@@ -52,20 +52,21 @@ use Rattle.book.specs.Sound.{isSound}
 use Rattle.book.specs.Calls.{callFault, hasRoom, entryFault, requestFault, requestOf, afterRequest, withdrawalFault, withdrawalOf, afterWithdrawal, nextTurn, handedOut, takeOf, afterTake}
 use Rattle.book.specs.declared.Book.{Book}
 use lib.Ieee.Scale.{finite}
+use Rattle.promises.specs.Numbers.{settingNumbers, liquidNumbers, jobNumbers, provingNumbers, recordNumbers, runNumbers, drawNumbers, passesNumbers, fillNumbers, ticketNumbers, liveNumbers, requestNumbers, withdrawalNumbers, takeNumbers, readNumbers, writeNumbers}
 use Rattle.promises.specs.Ending.{markedOf, recordOk, refusalOk, Ends}
 use Rattle.promises.proofs.Endings.{Finds, by-demand, by-demandAt, by-orElse, by-scan, by-unless, by-judged, by-nine, as-told}
 
 -- ---- the factors: 3 for a metal or pipe, 5 for a temperature, pressure or F; no records are handed over
 
-pub cts-ends : (d : ℕ) (metal : Metal) (t : ℤ) → Ends (3 ∷ 5 ∷ []) 0 0 (ctsOf d metal t)
+pub cts-ends : (d : ℕ) (metal : Metal) (t : ℤ) → Ends settingNumbers 0 0 (ctsOf d metal t)
 unfolding ctsOf isOneOf markedOf recordOk refusalOk
 cts-ends d metal t = by-judged _ (by-orElse (by-demand (metalOk metal) 3 refl) (by-demand (temperatureOk t) 5 refl))
 
-pub cps-ends : (d : ℕ) (pipe : Pipe) (p : ℕ) → Ends (3 ∷ 5 ∷ []) 0 0 (cpsOf d pipe p)
+pub cps-ends : (d : ℕ) (pipe : Pipe) (p : ℕ) → Ends settingNumbers 0 0 (cpsOf d pipe p)
 unfolding cpsOf isOneOf markedOf recordOk refusalOk
 cps-ends d pipe p = by-judged _ (by-orElse (by-demand (pipeOk pipe) 3 refl) (by-demand (pressureOk p) 5 refl))
 
-pub cpl-ends : (d : ℕ) (liquid : Liquid) → Ends (5 ∷ []) 0 0 (cplOf d liquid)
+pub cpl-ends : (d : ℕ) (liquid : Liquid) → Ends liquidNumbers 0 0 (cplOf d liquid)
 unfolding cplOf isOneOf markedOf recordOk refusalOk
 cpl-ends d liquid = by-judged _ (by-demand (liquidOk liquid) 5 refl)
 
@@ -80,13 +81,13 @@ given-finds : {numbers : List ℕ} {first last : ℕ} (prover : Prover) (k : ℕ
 unfolding givenFault
 given-finds prover k run at three four five = by-orElse (by-demand (proverOk prover) 3 three) (by-orElse (by-demand (kFactorOk k) 4 four) (by-demandAt (runOk run) 5 at five))
 
-pub worked-ends : (prover : Prover) (k : ℕ) (run : Run) (at : ℕ) → Ends (3 ∷ 4 ∷ 5 ∷ 7 ∷ 8 ∷ []) at at (workedOf prover k run at)
+pub worked-ends : (prover : Prover) (k : ℕ) (run : Run) (at : ℕ) → Ends runNumbers at at (workedOf prover k run at)
 unfolding workedOf figuresTold isOneOf markedOf recordOk refusalOk
 worked-ends prover k run at =
     let same : within at at at ≡ true = within-true at at at (omega arith) (omega arith) in
     by-unless (given-finds prover k run at refl refl same) (by-judged _ (own-figures (figuresOf prover k run) at same same))
 
-pub shown-ends : (prover : Prover) (k : ℕ) (s : List ℕ) → Ends (1 ∷ 3 ∷ 4 ∷ 5 ∷ 2 ∷ 7 ∷ 8 ∷ []) 1 1 (shownOf prover k s)
+pub shown-ends : (prover : Prover) (k : ℕ) (s : List ℕ) → Ends recordNumbers 1 1 (shownOf prover k s)
 unfolding shownOf figuresTold isOneOf markedOf recordOk refusalOk
 shown-ends prover k s =
     by-unless
@@ -120,7 +121,7 @@ module _ {numbers : List ℕ} (prover : Prover) (k limit : ℕ) (s : List ℕ) w
 of-records : (n i : ℕ) → i < n → within 1 n (i + 1) ≡ true
 of-records n i h = within-true 1 n (i + 1) (omega arith) (omega arith)
 
-pub job-ends : (request : ℕ) (prover : Prover) (k limit : ℕ) (s : List ℕ) (size : ℕ) → Ends (14 ∷ 22 ∷ 1 ∷ 3 ∷ 4 ∷ 5 ∷ 2 ∷ 7 ∷ 8 ∷ 9 ∷ []) 1 (runsIn s) (jobOf request prover k limit s size)
+pub job-ends : (request : ℕ) (prover : Prover) (k limit : ℕ) (s : List ℕ) (size : ℕ) → Ends jobNumbers 1 (runsIn s) (jobOf request prover k limit s size)
 unfolding jobOf isOneOf markedOf recordOk refusalOk
 job-ends request prover k limit s size =
     let of = of-records (runsIn s) in
@@ -128,7 +129,7 @@ job-ends request prover k limit s size =
     (by-unless (input-finds prover k limit s refl refl refl of of of of) (by-nine (firstFive prover k limit s) (reportAt request prover k s) refl))
 
 -- the entry that hands run records back, without buffer or request number
-pub found-ends : (prover : Prover) (k limit : ℕ) (s : List ℕ) → Ends (1 ∷ 3 ∷ 4 ∷ 5 ∷ 2 ∷ 7 ∷ 8 ∷ 9 ∷ []) 1 (runsIn s) (foundOf prover k limit s)
+pub found-ends : (prover : Prover) (k limit : ℕ) (s : List ℕ) → Ends provingNumbers 1 (runsIn s) (foundOf prover k limit s)
 unfolding foundOf isOneOf markedOf recordOk refusalOk
 found-ends prover k limit s =
     let of = of-records (runsIn s) in
@@ -141,11 +142,11 @@ none-when-refused prover k limit s is = ap (λ (t : Told ℕ). acceptedBy runSiz
 
 -- ---- the report: 'A report read: 14, 15. The report writer alone ..: 14, 22, 15.'
 
-pub write-ends : (size number runs first : ℕ) (factors : Factors) → Ends (14 ∷ 22 ∷ 15 ∷ []) 0 0 (writeOf size number runs first factors)
+pub write-ends : (size number runs first : ℕ) (factors : Factors) → Ends writeNumbers 0 0 (writeOf size number runs first factors)
 unfolding writeOf isOneOf markedOf recordOk refusalOk
 write-ends size number runs first factors = by-judged _ (by-orElse (by-demand (eqb size 32) 14 refl) (by-orElse (by-demand (not (eqb number 0)) 22 refl) (by-demand (jobOk runs first (listOf factors)) 15 refl)))
 
-pub read-ends : (s : List ℕ) → Ends (14 ∷ 15 ∷ []) 0 0 (readOf s)
+pub read-ends : (s : List ℕ) → Ends readNumbers 0 0 (readOf s)
 unfolding readOf isOneOf markedOf recordOk refusalOk
 read-ends s = by-judged _ (by-orElse (by-demand (eqb (length s) 32) 14 refl) (by-demand (isReport s) 15 refl))
 
@@ -155,7 +156,7 @@ record-finds : {numbers : List ℕ} {first last : ℕ} (s : List ℕ) (i : ℕ) 
 unfolding recordFaultOfFill
 record-finds s i five two = by-orElse (by-demandAt (fillOk (fillAt s i)) 5 (i + 1) five) (by-demandAt (fillUnnamedOk s i) 2 (i + 1) two)
 
-pub fill-ends : (metal : Metal) (s : List ℕ) → Ends (1 ∷ 3 ∷ 5 ∷ 2 ∷ []) 1 1 (fillOf metal s)
+pub fill-ends : (metal : Metal) (s : List ℕ) → Ends fillNumbers 1 1 (fillOf metal s)
 unfolding fillOf isOneOf markedOf recordOk refusalOk
 fill-ends metal s = by-judged _ (by-orElse (by-demand (eqb (length s) 32) 1 refl) (by-orElse (by-demand (metalOk metal) 3 refl) (record-finds s 0 refl refl)))
 
@@ -169,11 +170,11 @@ draw-finds prover s one three five two six =
     (by-scan (fillFault s) (recordsIn 32 s) 0 (λ i _ h. let b : i < recordsIn 32 s = omega arith in by-orElse (record-finds s i (five i b) (two i b)) (by-demandAt (ruleOk s i) 6 (i + 1) (six i b))))
     (by-demand (passesOk (passCount s)) 1 one)))
 
-pub passes-end : (prover : Prover) (s : List ℕ) → Ends (1 ∷ 3 ∷ 5 ∷ 2 ∷ 6 ∷ []) 1 (recordsIn 32 s) (passesOf prover s)
+pub passes-end : (prover : Prover) (s : List ℕ) → Ends passesNumbers 1 (recordsIn 32 s) (passesOf prover s)
 unfolding passesOf isOneOf markedOf recordOk refusalOk
 passes-end prover s = by-judged _ (let of = of-records (recordsIn 32 s) in draw-finds prover s refl refl of of of)
 
-pub draw-ends : (prover : Prover) (s : List ℕ) → Ends (1 ∷ 3 ∷ 5 ∷ 2 ∷ 6 ∷ 9 ∷ []) 1 (recordsIn 32 s) (drawOf prover s)
+pub draw-ends : (prover : Prover) (s : List ℕ) → Ends drawNumbers 1 (recordsIn 32 s) (drawOf prover s)
 unfolding drawOf baseOf isOneOf markedOf recordOk refusalOk
 draw-ends prover s =
     let of = of-records (recordsIn 32 s) in
@@ -181,15 +182,15 @@ draw-ends prover s =
 
 -- ---- 'A ticket: 10, 11.' A live reading: 12, 13.
 
-pub ticket-ends : (t : Ticket) → Ends (10 ∷ 11 ∷ []) 0 0 (ticketOf t)
+pub ticket-ends : (t : Ticket) → Ends ticketNumbers 0 0 (ticketOf t)
 unfolding ticketOf isOneOf markedOf recordOk refusalOk
 ticket-ends t = by-judged _ (by-orElse (by-demand (ticketOk t) 10 refl) (by-demand (leb (t .opening) (t .closing)) 11 refl))
 
-single-finds : (inRange : ℤ → Bool) (z : ℤ) (x : Float) → Finds (12 ∷ 13 ∷ []) 0 0 (singleFault inRange z x)
+single-finds : (inRange : ℤ → Bool) (z : ℤ) (x : Float) → Finds liveNumbers 0 0 (singleFault inRange z x)
 unfolding isOneOf markedOf recordOk refusalOk
 single-finds inRange z x = by-orElse (by-demand (finite x) 12 refl) (by-demand (inRange z) 13 refl)
 
-pub live-ends : (temperature pressure : Float) → Ends (12 ∷ 13 ∷ []) 0 0 (liveOf temperature pressure)
+pub live-ends : (temperature pressure : Float) → Ends liveNumbers 0 0 (liveOf temperature pressure)
 live-ends temperature pressure =
     as-told (live-judged temperature pressure)
     (by-judged _ (by-orElse (single-finds temperatureOk (wholeOf 0 10 temperature) temperature) (single-finds psiOk (wholeOf 0 1 pressure) pressure)))
@@ -202,7 +203,7 @@ unfolding callFault isOneOf markedOf recordOk refusalOk
 call-finds book shipper number more =
     by-orElse (by-demand (isSound book) 20 refl) (by-orElse (by-demand (ltb shipper shippers) 21 refl) (by-demand (not (eqb number 0)) 22 refl))
 
-pub request-ends : (book : Book) (shipper number : ℕ) → Ends (20 ∷ 21 ∷ 22 ∷ 23 ∷ 24 ∷ 25 ∷ []) 0 0 (requestOf book shipper number)
+pub request-ends : (book : Book) (shipper number : ℕ) → Ends requestNumbers 0 0 (requestOf book shipper number)
 unfolding requestOf requestFault entryFault isOneOf markedOf recordOk refusalOk
 request-ends book shipper number =
     by-judged _
@@ -210,17 +211,17 @@ request-ends book shipper number =
     (by-orElse (by-demand (not (isOneOf number (waitingOf book shipper))) 23 refl)
     (by-orElse (by-demand (ltb (has book shipper) (ceiling book shipper)) 24 refl) (by-demand (hasRoom book shipper) 25 refl))))
 
-pub withdrawal-ends : (book : Book) (shipper number : ℕ) → Ends (20 ∷ 21 ∷ 22 ∷ 26 ∷ []) 0 0 (withdrawalOf book shipper number)
+pub withdrawal-ends : (book : Book) (shipper number : ℕ) → Ends withdrawalNumbers 0 0 (withdrawalOf book shipper number)
 unfolding withdrawalOf withdrawalFault isOneOf markedOf recordOk refusalOk
 withdrawal-ends book shipper number =
     by-judged _ (by-orElse (call-finds book shipper number (26 ∷ [])) (by-demand (isOneOf number (waitingOf book shipper)) 26 refl))
 
-handed-ends : (book : Book) (next : Option ℕ) → Ends (20 ∷ 27 ∷ []) 0 0 (handedOut book next)
+handed-ends : (book : Book) (next : Option ℕ) → Ends takeNumbers 0 0 (handedOut book next)
 unfolding handedOut isOneOf markedOf recordOk refusalOk
 handed-ends book none = record { gives = refl }
 handed-ends book (some turn) = record { gives = tt }
 
-pub take-ends : (book : Book) → Ends (20 ∷ 27 ∷ []) 0 0 (takeOf book)
+pub take-ends : (book : Book) → Ends takeNumbers 0 0 (takeOf book)
 unfolding takeOf isOneOf markedOf recordOk refusalOk
 take-ends book = by-unless (by-demand (isSound book) 20 refl) (handed-ends book (nextTurn book))
 

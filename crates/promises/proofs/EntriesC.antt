@@ -1,6 +1,6 @@
 -- Demand 1 of the C face's contracts: each answer is its meaning flattened, and the meaning ends as the demand says.
 use mathlib.Core.Path.{_≡_, refl, ap, _∙_}
-use mathlib.Core.List.{List, [], _∷_}
+use mathlib.Core.List.{List}
 use Prim.Native.Nat.{ℕ, _*_}
 use lib.ListN.{length, take, drop, replicate}
 use Rattle.refusals.specs.Told.{Told, done, refused, leftBy}
@@ -18,6 +18,7 @@ use Rattle.api.specs.Flat.{partOf, flatPasses, noReport, noFigures, noFill, noB
 use Rattle.api.specs.declared.jobs.EndakuroPart.{EndakuroPart}
 use Rattle.api.specs.declared.quotients.EndakuroQuotient.{EndakuroQuotient}
 use Rattle.api.specs.declared.water.EndakuroPasses.{EndakuroPasses}
+use Rattle.promises.specs.Numbers.{passesNumbers}
 use Rattle.promises.specs.Arguments.{first, second, third, fourth, fifth, sixth}
 use Rattle.promises.specs.FlatEnding.{FlatEnds, byKind, passesIn}
 use Rattle.promises.specs.EntriesC.{EntriesC}
@@ -36,7 +37,7 @@ part-is-accepted prover k limit s = part-accepted (foundOf prover k limit s) s
 
 -- the passes: their count, and the volumes that stand beside it, by what is told
 module _ (prover : Prover) (s : List ℕ) where
-  passes-flat : {r : EndakuroPasses} → r ≡ flatPasses (passesOf prover s) (heldFor prover s) → FlatEnds (1 ∷ 3 ∷ 5 ∷ 2 ∷ 6 ∷ []) 1 (recordsIn 32 s) 0 (passesIn r) (passesOf prover s)
+  passes-flat : {r : EndakuroPasses} → r ≡ flatPasses (passesOf prover s) (heldFor prover s) → FlatEnds passesNumbers 1 (recordsIn 32 s) 0 (passesIn r) (passesOf prover s)
   unfolding isOneOf
   passes-flat is = flat-ends refl 0 (passes-back (heldFor prover s)) is (passes-end prover s)
 

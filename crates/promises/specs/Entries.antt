@@ -4,7 +4,7 @@
 -- `prove` are request, prover, K, limit, records and buffer; of `accept` prover, K, limit and records; of `write` number, runs, first run,
 -- factors and buffer; of `work_out` prover, K, run and record; of `passes` and `draw` prover and records.
 use mathlib.Core.Path.{_≡_}
-use mathlib.Core.List.{[], _∷_}
+use mathlib.Core.List.{[]}
 use Prim.Native.Nat.{ℕ}
 use Rattle.refusals.specs.Told.{refused}
 use Rattle.octets.specs.Records.{recordsIn}
@@ -34,33 +34,34 @@ use Rattle.live.proofs.convert.Reads as convert
 use Rattle.book.proofs.request.Reads as request
 use Rattle.book.proofs.withdraw.Reads as withdraw
 use Rattle.book.proofs.take.Reads as take
+use Rattle.promises.specs.Numbers.{settingNumbers, liquidNumbers, jobNumbers, recordNumbers, runNumbers, drawNumbers, passesNumbers, fillNumbers, ticketNumbers, liveNumbers, requestNumbers, withdrawalNumbers, takeNumbers, readNumbers, writeNumbers}
 use Rattle.promises.specs.Arguments.{first, second, third, fourth, fifth, sixth}
 use Rattle.promises.specs.Ending.{Ends}
 
 pub record Entries : Type 0 where
-  pub cts-entry : (κ : _) (a : _) (r : _) (x : _) → cts.Post κ a r x → Ends (3 ∷ 5 ∷ []) 0 0 (toldFactor r)
-  pub cps-entry : (κ : _) (a : _) (r : _) (x : _) → cps.Post κ a r x → Ends (3 ∷ 5 ∷ []) 0 0 (toldFactor r)
-  pub cpl-entry : (κ : _) (a : _) (r : _) (x : _) → cpl.Post κ a r x → Ends (5 ∷ []) 0 0 (toldFactor r)
+  pub cts-entry : (κ : _) (a : _) (r : _) (x : _) → cts.Post κ a r x → Ends settingNumbers 0 0 (toldFactor r)
+  pub cps-entry : (κ : _) (a : _) (r : _) (x : _) → cps.Post κ a r x → Ends settingNumbers 0 0 (toldFactor r)
+  pub cpl-entry : (κ : _) (a : _) (r : _) (x : _) → cpl.Post κ a r x → Ends liquidNumbers 0 0 (toldFactor r)
   -- one run: the record is the one that the caller names
-  pub work-out-entry : (κ : _) (a : _) (r : _) (x : _) → work-out.Post κ a r x → Ends (3 ∷ 4 ∷ 5 ∷ 7 ∷ 8 ∷ []) (fourth a) (fourth a) (toldRun r)
-  pub show-entry : (κ : _) (a : _) (r : _) (x : _) → show.Post κ a r x → Ends (1 ∷ 3 ∷ 4 ∷ 5 ∷ 2 ∷ 7 ∷ 8 ∷ []) 1 1 (toldRun r)
+  pub work-out-entry : (κ : _) (a : _) (r : _) (x : _) → work-out.Post κ a r x → Ends runNumbers (fourth a) (fourth a) (toldRun r)
+  pub show-entry : (κ : _) (a : _) (r : _) (x : _) → show.Post κ a r x → Ends recordNumbers 1 1 (toldRun r)
   -- the job: records 1 to the count of those lent; a refusal leaves the buffer's bytes
-  pub prove-entry : (κ : _) (a : _) (r : _) (x : _) → prove.Post κ a r x → Ends (14 ∷ 22 ∷ 1 ∷ 3 ∷ 4 ∷ 5 ∷ 2 ∷ 7 ∷ 8 ∷ 9 ∷ []) 1 (runsIn (fifth a .now)) (toldReport r)
+  pub prove-entry : (κ : _) (a : _) (r : _) (x : _) → prove.Post κ a r x → Ends jobNumbers 1 (runsIn (fifth a .now)) (toldReport r)
   pub prove-leaves : (κ : _) (a : _) (r : _) (x : _) {number at : ℕ} → prove.Post κ a r x → toldReport r ≡ refused number at → sixth x .now ≡ sixth a .now
   -- '(The entry that hands run records back hands back none when it refuses, and no number.)'
   pub accept-hands-none : (κ : _) (a : _) (r : _) (x : _) {number at : ℕ} → accept.Post κ a r x → foundOf (first a) (second a) (third a) (fourth a .now) ≡ refused number at → r .now ≡ []
-  pub write-entry : (κ : _) (a : _) (r : _) (x : _) → write.Post κ a r x → Ends (14 ∷ 22 ∷ 15 ∷ []) 0 0 (toldReport r)
+  pub write-entry : (κ : _) (a : _) (r : _) (x : _) → write.Post κ a r x → Ends writeNumbers 0 0 (toldReport r)
   pub write-leaves : (κ : _) (a : _) (r : _) (x : _) {number at : ℕ} → write.Post κ a r x → toldReport r ≡ refused number at → fifth x .now ≡ fifth a .now
-  pub read-entry : (κ : _) (a : _) (r : _) (x : _) → read.Post κ a r x → Ends (14 ∷ 15 ∷ []) 0 0 (toldReport r)
-  pub fill-entry : (κ : _) (a : _) (r : _) (x : _) → fill.Post κ a r x → Ends (1 ∷ 3 ∷ 5 ∷ 2 ∷ []) 1 1 (toldFill r)
-  pub passes-entry : (κ : _) (a : _) (r : _) (x : _) → passes.Post κ a r x → Ends (1 ∷ 3 ∷ 5 ∷ 2 ∷ 6 ∷ []) 1 (recordsIn 32 (second a .now)) (toldPasses (r .answer))
-  pub draw-entry : (κ : _) (a : _) (r : _) (x : _) → draw.Post κ a r x → Ends (1 ∷ 3 ∷ 5 ∷ 2 ∷ 6 ∷ 9 ∷ []) 1 (recordsIn 32 (second a .now)) (toldDraw r)
-  pub ticket-entry : (κ : _) (a : _) (r : _) (x : _) → ticket.Post κ a r x → Ends (10 ∷ 11 ∷ []) 0 0 (toldTicket r)
-  pub convert-entry : (κ : _) (a : _) (r : _) (x : _) → convert.Post κ a r x → Ends (12 ∷ 13 ∷ []) 0 0 (toldLive r)
+  pub read-entry : (κ : _) (a : _) (r : _) (x : _) → read.Post κ a r x → Ends readNumbers 0 0 (toldReport r)
+  pub fill-entry : (κ : _) (a : _) (r : _) (x : _) → fill.Post κ a r x → Ends fillNumbers 1 1 (toldFill r)
+  pub passes-entry : (κ : _) (a : _) (r : _) (x : _) → passes.Post κ a r x → Ends passesNumbers 1 (recordsIn 32 (second a .now)) (toldPasses (r .answer))
+  pub draw-entry : (κ : _) (a : _) (r : _) (x : _) → draw.Post κ a r x → Ends drawNumbers 1 (recordsIn 32 (second a .now)) (toldDraw r)
+  pub ticket-entry : (κ : _) (a : _) (r : _) (x : _) → ticket.Post κ a r x → Ends ticketNumbers 0 0 (toldTicket r)
+  pub convert-entry : (κ : _) (a : _) (r : _) (x : _) → convert.Post κ a r x → Ends liveNumbers 0 0 (toldLive r)
   -- the book: a refusal hands back the book that came in
-  pub request-entry : (κ : _) (a : _) (r : _) (x : _) → request.Post κ a r x → Ends (20 ∷ 21 ∷ 22 ∷ 23 ∷ 24 ∷ 25 ∷ []) 0 0 (toldChange (r .answer))
+  pub request-entry : (κ : _) (a : _) (r : _) (x : _) → request.Post κ a r x → Ends requestNumbers 0 0 (toldChange (r .answer))
   pub request-leaves : (κ : _) (a : _) (r : _) (x : _) {number at : ℕ} → request.Post κ a r x → toldChange (r .answer) ≡ refused number at → r .book ≡ first a
-  pub withdraw-entry : (κ : _) (a : _) (r : _) (x : _) → withdraw.Post κ a r x → Ends (20 ∷ 21 ∷ 22 ∷ 26 ∷ []) 0 0 (toldChange (r .answer))
+  pub withdraw-entry : (κ : _) (a : _) (r : _) (x : _) → withdraw.Post κ a r x → Ends withdrawalNumbers 0 0 (toldChange (r .answer))
   pub withdraw-leaves : (κ : _) (a : _) (r : _) (x : _) {number at : ℕ} → withdraw.Post κ a r x → toldChange (r .answer) ≡ refused number at → r .book ≡ first a
-  pub take-entry : (κ : _) (a : _) (r : _) (x : _) → take.Post κ a r x → Ends (20 ∷ 27 ∷ []) 0 0 (toldTake (r .answer))
+  pub take-entry : (κ : _) (a : _) (r : _) (x : _) → take.Post κ a r x → Ends takeNumbers 0 0 (toldTake (r .answer))
   pub take-leaves : (κ : _) (a : _) (r : _) (x : _) {number at : ℕ} → take.Post κ a r x → toldTake (r .answer) ≡ refused number at → r .book ≡ first a

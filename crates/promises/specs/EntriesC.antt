@@ -2,7 +2,6 @@
 -- numbers, and it ends with either its result or one number from the table ..' Of the calls on a book behind a pointer it is stated over
 -- the fact that their clause is (InPlaceC.antt). Arguments stand in the order of include/endakuro.h, lent bytes as one.
 use mathlib.Core.Path.{_≡_}
-use mathlib.Core.List.{[], _∷_}
 use Prim.Native.Nat.{ℕ, _*_}
 use lib.ListN.{length, take, drop, replicate}
 use Rattle.refusals.specs.Told.{done, refused}
@@ -44,43 +43,44 @@ use Rattle.api.proofs.water.endakuro_draw.Reads as draw
 use Rattle.api.proofs.tickets.endakuro_ticket.Reads as ticket
 use Rattle.api.proofs.readings.endakuro_live.Reads as live
 use Rattle.api.proofs.books.endakuro_empty.Reads as empty
+use Rattle.promises.specs.Numbers.{settingNumbers, liquidNumbers, jobNumbers, recordNumbers, drawNumbers, passesNumbers, fillNumbers, ticketNumbers, liveNumbers, requestNumbers, withdrawalNumbers, takeNumbers, readNumbers, writeNumbers}
 use Rattle.promises.specs.Arguments.{first, second, third, fourth, fifth, sixth}
 use Rattle.promises.specs.FlatEnding.{FlatEnds, LeavesAsFound, byKind, factorIn, reportIn, runIn, fillIn, passesIn, baseIn, volumesIn, readingIn, changeIn, handoutIn}
 use Rattle.promises.specs.InPlaceC.{Requests, Withdraws, Takes}
 
 pub record EntriesC : Type 0 where
-  pub cts-four-entry : (κ : _) (a : _) (r : _) (x : _) → cts-four.Post κ a r x → FlatEnds (3 ∷ 5 ∷ []) 0 0 0 (factorIn r) (ctsOf 4 (metalBy (second a) (third a)) (first a))
-  pub cts-six-entry : (κ : _) (a : _) (r : _) (x : _) → cts-six.Post κ a r x → FlatEnds (3 ∷ 5 ∷ []) 0 0 0 (factorIn r) (ctsOf 6 (metalBy (second a) (third a)) (first a))
-  pub cps-four-entry : (κ : _) (a : _) (r : _) (x : _) → cps-four.Post κ a r x → FlatEnds (3 ∷ 5 ∷ []) 0 0 0 (factorIn r) (cpsOf 4 (pipeBy (second a) (third a) (fourth a)) (first a))
-  pub cps-six-entry : (κ : _) (a : _) (r : _) (x : _) → cps-six.Post κ a r x → FlatEnds (3 ∷ 5 ∷ []) 0 0 0 (factorIn r) (cpsOf 6 (pipeBy (second a) (third a) (fourth a)) (first a))
-  pub cpl-four-entry : (κ : _) (a : _) (r : _) (x : _) → cpl-four.Post κ a r x → FlatEnds (5 ∷ []) 0 0 0 (factorIn r) (cplOf 4 (liquidBy (first a) (second a)))
-  pub cpl-six-entry : (κ : _) (a : _) (r : _) (x : _) → cpl-six.Post κ a r x → FlatEnds (5 ∷ []) 0 0 0 (factorIn r) (cplOf 6 (liquidBy (first a) (second a)))
+  pub cts-four-entry : (κ : _) (a : _) (r : _) (x : _) → cts-four.Post κ a r x → FlatEnds settingNumbers 0 0 0 (factorIn r) (ctsOf 4 (metalBy (second a) (third a)) (first a))
+  pub cts-six-entry : (κ : _) (a : _) (r : _) (x : _) → cts-six.Post κ a r x → FlatEnds settingNumbers 0 0 0 (factorIn r) (ctsOf 6 (metalBy (second a) (third a)) (first a))
+  pub cps-four-entry : (κ : _) (a : _) (r : _) (x : _) → cps-four.Post κ a r x → FlatEnds settingNumbers 0 0 0 (factorIn r) (cpsOf 4 (pipeBy (second a) (third a) (fourth a)) (first a))
+  pub cps-six-entry : (κ : _) (a : _) (r : _) (x : _) → cps-six.Post κ a r x → FlatEnds settingNumbers 0 0 0 (factorIn r) (cpsOf 6 (pipeBy (second a) (third a) (fourth a)) (first a))
+  pub cpl-four-entry : (κ : _) (a : _) (r : _) (x : _) → cpl-four.Post κ a r x → FlatEnds liquidNumbers 0 0 0 (factorIn r) (cplOf 4 (liquidBy (first a) (second a)))
+  pub cpl-six-entry : (κ : _) (a : _) (r : _) (x : _) → cpl-six.Post κ a r x → FlatEnds liquidNumbers 0 0 0 (factorIn r) (cplOf 6 (liquidBy (first a) (second a)))
   -- the job: records 1 to the count of those lent; a refusal leaves the buffer's bytes
   pub prove-entry : (κ : _) (a : _) (r : _) (x : _) → prove.Post κ a r x
-      → FlatEnds (14 ∷ 22 ∷ 1 ∷ 3 ∷ 4 ∷ 5 ∷ 2 ∷ 7 ∷ 8 ∷ 9 ∷ []) 1 (runsIn (fifth a .now)) noReport (reportIn r) (jobOf (first a) (proverBy (second a)) (third a) (fourth a) (fifth a .now) (length (sixth a .now)))
+      → FlatEnds jobNumbers 1 (runsIn (fifth a .now)) noReport (reportIn r) (jobOf (first a) (proverBy (second a)) (third a) (fourth a) (fifth a .now) (length (sixth a .now)))
   pub prove-leaves : (κ : _) (a : _) (r : _) (x : _) → prove.Post κ a r x → LeavesAsFound (reportIn r) (sixth x .now) (sixth a .now)
   -- '(The entry that hands run records back hands back none when it refuses, and no number.)'
   pub accept-hands-none : (κ : _) (a : _) (r : _) (x : _) {number at : ℕ} → accept.Post κ a r x → foundOf (proverBy (first a)) (second a) (third a) (fourth a .now) ≡ refused number at → (r .start ≡ 0) × (r .length ≡ 0)
   pub accept-hands-five : (κ : _) (a : _) (r : _) (x : _) {place : ℕ} → accept.Post κ a r x → foundOf (proverBy (first a)) (second a) (third a) (fourth a .now) ≡ done place → (r .start ≡ runSize * place) × (r .length ≡ 5 * runSize)
   pub accept-hands-the-runs : (κ : _) (a : _) (r : _) (x : _) → accept.Post κ a r x → take (r .length) (drop (r .start) (fourth a .now)) ≡ acceptedOf (proverBy (first a)) (second a) (third a) (fourth a .now)
-  pub run-entry : (κ : _) (a : _) (r : _) (x : _) → a-run.Post κ a r x → FlatEnds (1 ∷ 3 ∷ 4 ∷ 5 ∷ 2 ∷ 7 ∷ 8 ∷ []) 1 1 noFigures (runIn r) (shownOf (proverBy (first a)) (second a) (third a .now))
-  pub write-entry : (κ : _) (a : _) (r : _) (x : _) → write.Post κ a r x → FlatEnds (14 ∷ 22 ∷ 15 ∷ []) 0 0 noReport (reportIn r) (writeOf (length (fifth a .now)) (first a) (second a) (third a) (factorsBy (fourth a)))
+  pub run-entry : (κ : _) (a : _) (r : _) (x : _) → a-run.Post κ a r x → FlatEnds recordNumbers 1 1 noFigures (runIn r) (shownOf (proverBy (first a)) (second a) (third a .now))
+  pub write-entry : (κ : _) (a : _) (r : _) (x : _) → write.Post κ a r x → FlatEnds writeNumbers 0 0 noReport (reportIn r) (writeOf (length (fifth a .now)) (first a) (second a) (third a) (factorsBy (fourth a)))
   pub write-leaves : (κ : _) (a : _) (r : _) (x : _) → write.Post κ a r x → LeavesAsFound (reportIn r) (fifth x .now) (fifth a .now)
-  pub read-entry : (κ : _) (a : _) (r : _) (x : _) → read.Post κ a r x → FlatEnds (14 ∷ 15 ∷ []) 0 0 noReport (reportIn r) (readOf (first a .now))
-  pub fill-entry : (κ : _) (a : _) (r : _) (x : _) → fill.Post κ a r x → FlatEnds (1 ∷ 3 ∷ 5 ∷ 2 ∷ []) 1 1 noFill (fillIn r) (fillOf (metalBy (first a) (second a)) (third a .now))
-  pub passes-entry : (κ : _) (a : _) (r : _) (x : _) → passes.Post κ a r x → FlatEnds (1 ∷ 3 ∷ 5 ∷ 2 ∷ 6 ∷ []) 1 (recordsIn 32 (second a .now)) 0 (passesIn r) (passesOf (proverBy (first a)) (second a .now))
+  pub read-entry : (κ : _) (a : _) (r : _) (x : _) → read.Post κ a r x → FlatEnds readNumbers 0 0 noReport (reportIn r) (readOf (first a .now))
+  pub fill-entry : (κ : _) (a : _) (r : _) (x : _) → fill.Post κ a r x → FlatEnds fillNumbers 1 1 noFill (fillIn r) (fillOf (metalBy (first a) (second a)) (third a .now))
+  pub passes-entry : (κ : _) (a : _) (r : _) (x : _) → passes.Post κ a r x → FlatEnds passesNumbers 1 (recordsIn 32 (second a .now)) 0 (passesIn r) (passesOf (proverBy (first a)) (second a .now))
   -- and the volumes: of the passes when done, all zero when refused
   pub passes-volumes : (κ : _) (a : _) (r : _) (x : _) → passes.Post κ a r x → r .number ≡ 0 → r .volumes ≡ zerosAfter 20 (volumesOf (proverBy (first a)) (second a .now))
   pub passes-no-volumes : (κ : _) (a : _) (r : _) (x : _) → passes.Post κ a r x → (r .number ≡ 0 → ⊥) → r .volumes ≡ replicate 20 0
-  pub draw-entry : (κ : _) (a : _) (r : _) (x : _) → draw.Post κ a r x → FlatEnds (1 ∷ 3 ∷ 5 ∷ 2 ∷ 6 ∷ 9 ∷ []) 1 (recordsIn 32 (second a .now)) noBase (baseIn r) (drawOf (proverBy (first a)) (second a .now))
-  pub ticket-entry : (κ : _) (a : _) (r : _) (x : _) → ticket.Post κ a r x → FlatEnds (10 ∷ 11 ∷ []) 0 0 noVolumes (volumesIn r) (ticketOf (ticketBy (first a)))
-  pub live-entry : (κ : _) (a : _) (r : _) (x : _) → live.Post κ a r x → FlatEnds (12 ∷ 13 ∷ []) 0 0 noReading (readingIn r) (liveOf (first a) (second a))
+  pub draw-entry : (κ : _) (a : _) (r : _) (x : _) → draw.Post κ a r x → FlatEnds drawNumbers 1 (recordsIn 32 (second a .now)) noBase (baseIn r) (drawOf (proverBy (first a)) (second a .now))
+  pub ticket-entry : (κ : _) (a : _) (r : _) (x : _) → ticket.Post κ a r x → FlatEnds ticketNumbers 0 0 noVolumes (volumesIn r) (ticketOf (ticketBy (first a)))
+  pub live-entry : (κ : _) (a : _) (r : _) (x : _) → live.Post κ a r x → FlatEnds liveNumbers 0 0 noReading (readingIn r) (liveOf (first a) (second a))
   -- the book: a refusal leaves the book that was found
-  pub request-entry : (shipper number : ℕ) (found left : Book) (r : EndakuroDone) → Requests shipper number found left r → FlatEnds (20 ∷ 21 ∷ 22 ∷ 23 ∷ 24 ∷ 25 ∷ []) 0 0 tt (changeIn r) (requestOf found shipper number)
+  pub request-entry : (shipper number : ℕ) (found left : Book) (r : EndakuroDone) → Requests shipper number found left r → FlatEnds requestNumbers 0 0 tt (changeIn r) (requestOf found shipper number)
   pub request-leaves : (shipper number : ℕ) (found left : Book) (r : EndakuroDone) → Requests shipper number found left r → LeavesAsFound (changeIn r) left found
-  pub withdraw-entry : (shipper number : ℕ) (found left : Book) (r : EndakuroDone) → Withdraws shipper number found left r → FlatEnds (20 ∷ 21 ∷ 22 ∷ 26 ∷ []) 0 0 tt (changeIn r) (withdrawalOf found shipper number)
+  pub withdraw-entry : (shipper number : ℕ) (found left : Book) (r : EndakuroDone) → Withdraws shipper number found left r → FlatEnds withdrawalNumbers 0 0 tt (changeIn r) (withdrawalOf found shipper number)
   pub withdraw-leaves : (shipper number : ℕ) (found left : Book) (r : EndakuroDone) → Withdraws shipper number found left r → LeavesAsFound (changeIn r) left found
-  pub take-entry : (found left : Book) (r : EndakuroTaken) → Takes found left r → FlatEnds (20 ∷ 27 ∷ []) 0 0 noHandout (handoutIn r) (takeOf found)
+  pub take-entry : (found left : Book) (r : EndakuroTaken) → Takes found left r → FlatEnds takeNumbers 0 0 noHandout (handoutIn r) (takeOf found)
   pub take-leaves : (found left : Book) (r : EndakuroTaken) → Takes found left r → LeavesAsFound (handoutIn r) left found
   -- These two refuse nothing: a new book; and whether a book is sound, which is a bool and leaves the book (InPlaceC.antt).
   pub empty-entry : (κ : _) (a : _) (r : _) (x : _) → empty.Post κ a r x → r ≡ emptyBook

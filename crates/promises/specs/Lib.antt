@@ -3,6 +3,7 @@ pub mod Records
 pub mod Proving
 pub mod WaterDraw
 pub mod Ending
+pub mod Numbers
 pub mod Causes
 pub mod ExactCauses
 pub mod Entries

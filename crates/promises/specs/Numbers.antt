@@ -1,0 +1,60 @@
+-- 01, 'Numbers given back': the numbers that each entry can give, in the order in which it judges.
+use mathlib.Core.List.{List, [], _∷_}
+use Prim.Native.Nat.{ℕ}
+
+-- CTS of a metal and CPS of a pipe, then the temperature or pressure; CPL of a liquid
+abbrev pub settingNumbers : List ℕ
+settingNumbers = 3 ∷ 5 ∷ []
+
+abbrev pub liquidNumbers : List ℕ
+liquidNumbers = 5 ∷ []
+
+-- 'For a job that writes a report: 14, request number zero (22), then 1, 3, 4; then records first to last, each with 5, 2, 6; then 7 and 8
+-- run by run; then 9.' A run has no pass, so 6 is the water draw's alone.
+abbrev pub jobNumbers : List ℕ
+jobNumbers = 14 ∷ 22 ∷ 1 ∷ 3 ∷ 4 ∷ 5 ∷ 2 ∷ 7 ∷ 8 ∷ 9 ∷ []
+
+-- the same without a report
+abbrev pub provingNumbers : List ℕ
+provingNumbers = 1 ∷ 3 ∷ 4 ∷ 5 ∷ 2 ∷ 7 ∷ 8 ∷ 9 ∷ []
+
+-- one run of a job: from its record, and from its fields
+abbrev pub recordNumbers : List ℕ
+recordNumbers = 1 ∷ 3 ∷ 4 ∷ 5 ∷ 2 ∷ 7 ∷ 8 ∷ []
+
+abbrev pub runNumbers : List ℕ
+runNumbers = 3 ∷ 4 ∷ 5 ∷ 7 ∷ 8 ∷ []
+
+-- 'A water draw drops 14, 22, 4 ..; more or fewer passes than 3 to 20 is 1, found after the records'; its passes alone; one fill
+abbrev pub drawNumbers : List ℕ
+drawNumbers = 1 ∷ 3 ∷ 5 ∷ 2 ∷ 6 ∷ 9 ∷ []
+
+abbrev pub passesNumbers : List ℕ
+passesNumbers = 1 ∷ 3 ∷ 5 ∷ 2 ∷ 6 ∷ []
+
+abbrev pub fillNumbers : List ℕ
+fillNumbers = 1 ∷ 3 ∷ 5 ∷ 2 ∷ []
+
+-- 'A ticket: 10, 11.' A live reading: 12, 13
+abbrev pub ticketNumbers : List ℕ
+ticketNumbers = 10 ∷ 11 ∷ []
+
+abbrev pub liveNumbers : List ℕ
+liveNumbers = 12 ∷ 13 ∷ []
+
+-- 'A book call, lowest number first: a request 20 to 25; a withdrawal 20, 21, 22, 26; a take 20, 27.'
+abbrev pub requestNumbers : List ℕ
+requestNumbers = 20 ∷ 21 ∷ 22 ∷ 23 ∷ 24 ∷ 25 ∷ []
+
+abbrev pub withdrawalNumbers : List ℕ
+withdrawalNumbers = 20 ∷ 21 ∷ 22 ∷ 26 ∷ []
+
+abbrev pub takeNumbers : List ℕ
+takeNumbers = 20 ∷ 27 ∷ []
+
+-- 'A report read: 14, 15. The report writer alone, which takes number, runs, first run and five factors: 14, 22, 15.'
+abbrev pub readNumbers : List ℕ
+readNumbers = 14 ∷ 15 ∷ []
+
+abbrev pub writeNumbers : List ℕ
+writeNumbers = 14 ∷ 22 ∷ 15 ∷ []
