@@ -1,6 +1,6 @@
 -- Demand 1 of the C face's contracts: each answer is its meaning flattened, and the meaning ends as the demand says.
 use mathlib.Core.Path.{_≡_, refl, ap, _∙_}
-use mathlib.Core.List.{List}
+use mathlib.Core.List.{List, []}
 use Prim.Native.Nat.{ℕ, _*_}
 use lib.ListN.{length, take, drop, replicate}
 use Rattle.refusals.specs.Told.{Told, done, refused, leftBy}
