@@ -8,7 +8,7 @@ from .units import Unit
 DEGREE = Unit("°F", 1, ("f", "fahrenheit"))
 PSI = Unit("psi", 0, ("psi", "psig", "psigage", "psigauge"))
 PER_DEGREE = Unit("per °F", 7, ("perf", "/f", "1/f"))
-INCH = Unit("in", 3, ("in", "inch", "inches", '"', "\u2032\u2032"))
+INCH = Unit("in", 3, ("in", "inch", "inches", '"', "\u2032\u2032"), in_words="inches")
 PER_PSI = Unit("per psi", 8, ("perpsi", "/psi", "1/psi"))
 FACTOR = Unit("", 4)
 FINE_FACTOR = Unit("", 6)

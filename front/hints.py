@@ -22,12 +22,21 @@ def echo(value):
 
 def near(key, known):
     """The known keys that a key is likely to stand for: one that it begins, abbreviates, or nearly spells."""
-    said = re.sub(r"[^a-z0-9]+", "_", key.casefold())
+    return shortened(key, known) or difflib.get_close_matches(plainly(key), list(known), 1, 0.5)
+
+
+def shortened(key, known):
+    """The known keys that a key begins or abbreviates."""
+    said = plainly(key)
     for means in (begins, abbreviates, names_a_part):
         found = [each for each in known if said and means(said, each)]
         if found:
             return found
-    return difflib.get_close_matches(said, list(known), 1, 0.5)
+    return []
+
+
+def plainly(key):
+    return re.sub(r"[^a-z0-9]+", "_", key.casefold())
 
 
 def begins(said, key):

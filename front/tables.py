@@ -1,6 +1,6 @@
 """A table of a job file: its keys and values taken exactly, every fault noted with its place."""
 
-from .hints import echo, near, offer
+from .hints import echo, near, offer, shortened
 from .toml_text import TOLD, Written
 from .units import MOST_DIGITS, Inexact
 
@@ -36,10 +36,13 @@ class Table:
                 self.file.misplaced.add(key)
                 here = f"in {self.place}" if self.place else "at the top of the file"
                 self.bad(key, f"stands {here} and belongs {homes[key]}")
-            else:
-                offered = near(key, known)
-                self.slipped.update(offered)
-                self.bad(key, f"unknown key: {offer(offered, known)}")
+                continue
+            elsewhere = [] if shortened(key, known) else shortened(key, homes or ())
+            offered = elsewhere or near(key, known)
+            self.slipped.update(offered)
+            self.file.misplaced.update(elsewhere)
+            belongs = f" It belongs {homes[elsewhere[0]]}" if elsewhere else ""
+            self.bad(key, f"unknown key: {offer(offered, known)}{belongs}")
 
     def lacks(self, key, told):
         if self.whole and key not in self.slipped:

@@ -29,12 +29,14 @@ class Inexact(ValueError):
 
 @dataclass(frozen=True)
 class Unit:
-    """One count is 10^-places of what `name` says; `spellings`, as `normal` has them, may stand behind a number."""
+    """One count is 10^-places of what `name` says; `spellings`, as `normal` has them, may stand behind a number.
+    A sentence has `in_words` where the name would read badly in it."""
 
     name: str
     places: int
     spellings: tuple = ()
     of_one: str = ""
+    in_words: str = ""
 
     def __post_init__(self):
         SPELLED.update(self.spellings)
@@ -62,14 +64,14 @@ class Unit:
     def not_in(self, unit):
         if normal(unit) in CELSIUS and self.name == "°F":
             return "is in °C, and only °F is taken"
-        return f"is not in {self.name}" if self.name else "is not a plain number"
+        return f"is not in {self.in_words or self.name}" if self.name else "is not a plain number"
 
     @property
     def expected(self):
         decimals = {0: "a whole number", 1: "at most 1 decimal"}.get(self.places, f"at most {self.places} decimals")
         if not self.name:
             return decimals
-        return f"{decimals}, in {self.name}"
+        return f"{decimals}, in {self.in_words or self.name}"
 
     def whole(self, number):
         if "," in number and COMMAS.fullmatch(number):

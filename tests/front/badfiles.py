@@ -55,6 +55,8 @@ CASES = (
     ("key slipped", "prove", changed("prover_ctl", "prover_clt"),
      "[every_run], prover_clt: unknown key: did you mean prover_ctl?"),
     ("key slipped at the top", "prove", changed("request", "requests"), "requests: unknown key: did you mean request?"),
+    ("key cut short in the wrong table", "prove", "prover_temp = 73.5\n" + GOOD,
+     "prover_temp: unknown key: did you mean prover_temperature? It belongs in [[run]] or [every_run]"),
     ("key unheard of", "prove", changed("[meter]", "[meter]\nxyz = 1"),
      "[meter], xyz: unknown key: expected one of k_factor"),
     ("key slipped in a run", "prove", changed("meter_temperature = 64.5", "meter_temprature = 64.5"),

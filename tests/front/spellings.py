@@ -38,6 +38,7 @@ NOT_TAKEN = (
     (fields.PSI, "80 psia", "80 psia is not in psi"),
     (fields.PSI, "80 °C", "80 °C is not in psi"),
     (fields.PSI, "5.5 bar", "5.5 bar is not in psi"),
+    (fields.INCH, "33.9 cm", "33.9 cm is not in inches: expected at most 3 decimals, in inches"),
     (fields.PSI, "80.5", "80.5 has more digits than the unit, 1 psi: expected a whole number, in psi"),
     (fields.BARREL, "21.12341", "21.12341 has more digits than the unit, 0.0001 bbl"),
     (fields.DEGREE, "73,5", "73,5 has a comma: write 73.5, with a decimal point"),
