@@ -62,6 +62,6 @@ returns c = λ i. record { factor = factor-is (c .before .before) i; gross = gro
 pub correct-spec : {M : Type 1} → Rattle.ticket.proofs.correct.Statement.statement M
 correct-spec =
     tie.close
-    (tie.spec (search needs) (search needs) (search needs) (search needs) (search needs) (search needs)
-    (λ c. omega (arith, supplied-small (bounds (start (c .before .before .before))))) (search needs) (λ c. bounds (start (asked c)) .sediment)
-    (search needs) round-requires (search needs) round-requires-2 (search needs) round-requires-3 returns)
+    (tie.spec (search needs) (search needs) (search needs) (λ c. omega arith) (λ c. omega arith) (λ c. omega arith)
+    (λ c. omega (arith, supplied-small (bounds (start (c .before .before .before))))) (λ c. omega arith) (λ c. bounds (start (asked c)) .sediment)
+    (λ c. omega arith) round-requires (λ c. omega arith) round-requires-2 (λ c. omega arith) round-requires-3 returns)
