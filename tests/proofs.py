@@ -3,6 +3,7 @@
 - an imported name that the file does not use, and a law that nothing cites: no proof, no page of docs/
 - a line of over 250 characters, and a chain of five `.before` or more, which wants a name
 - `unfolding` in specs/: a definition says what it means without opening another
+- `cc` in a function's own proof: where the program is wrong it runs to its bound, which takes long and shows nothing
 - docs/ARCHITECTURE.md's table against crates.txt and the lines that the crates have
 
 Run: python3 tests/proofs.py    --table prints the table's rows as they should be (seconds are kept)
@@ -21,6 +22,7 @@ WIDTH = 250
 EDGE = r"[\s(){},;.⌜⌝]"
 LAW = re.compile(r"^\s*(?:abbrev |unfoldable )?(?:pub )?([^\s(){};.:=]+) :(?: |$)")
 CLOSING = re.compile(r"-spec$")
+CLOSURE = re.compile(rf"(?:^|{EDGE})cc(?:{EDGE}|$)")
 CHAIN = re.compile(r"(?: \.before){5}")
 # The place that a chain leads to, named: by a definition of its own, or by a let.
 NAMED = re.compile(r"^\S+ c = c(?: \.before)+$|let \S+ = \w+(?: \.[\w-]+)+ in")
@@ -71,6 +73,8 @@ def shapes(path):
             yield f"line {number} has five .before in a row and no name for them"
         if path.parent.name == "specs" and line.strip().startswith("unfolding "):
             yield f"line {number} opens a definition"
+        if path.name == "Proof.antt" and not line.lstrip().startswith("--") and CLOSURE.search(line):
+            yield f"line {number} proves by cc, which a wrong program makes run to its bound"
 
 
 def laws(path):

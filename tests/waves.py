@@ -22,9 +22,7 @@ LABEL = re.compile(r"^# (?P<label>\w+) in (?P<function>\w+(?:::\w+)*): \S")
 # What a refusal says when a fact fails: two terms differ, or a goal does not follow.
 FACT = re.compile(
     r"the two (types|values) (first )?differ|but this has type|but the extension \(path\) type requires|`omega`: .*(does not follow|fails, at)|`search`: no proof of"
-    r"|`cc` (concluded nothing|did not conclude)|what it leaves must be a path whose two ends are equal"
-    # the same equations join the two ends of the right program within the bound
-    r"|`cc` met a bound of its own before the equations had joined",
+    r"|`cc` (concluded nothing|did not conclude)|what it leaves must be a path whose two ends are equal",
     re.S,
 )
 # What it says when only the proof's own text no longer fits: a name, a field or a need that is not there, other code than it walks, or
@@ -196,6 +194,7 @@ MADE_UP = [
     ("# a in f: why\nfile: src/lib.rt\nold: x\nnew: y", "C/proofs/f/Proof.antt:9:1: error: `returns`: record `Else`\n  has no field `divide`", "only its form"),
     ("# a in f: why\nfile: src/lib.rt\nold: x\nnew: y", "C/proofs/f/Proof.antt:9:1: error: `g` is not in scope", "only its form"),
     ("# a in f: why\nfile: src/lib.rt\nold: x\nnew: y", "C/proofs/f/Proof.antt:9:1: error: the two types differ only where one has `r`\n  and the other has `code.function` (found)", "only its form"),
+    ("# a in f: why\nfile: src/lib.rt\nold: x\nnew: y", "C/proofs/f/Proof.antt:9:1: error: `returns`: `cc` met a bound of its own before the equations had joined the two ends", "no fact fails in f"),
     ("# a in f: why\nfile: src/lib.rt\nold: x\nnew: y", "fn C::f: not proved; it calls `C::g`, which is not proved", "nothing is refused in f"),
     ("# a in f: why\nfile: specs/A.antt\nold: x\nnew: y", "C/proofs/f/Proof.antt:9:1: error: `g` is not in scope", "no fact that fails"),
     ("# a in f: why\nfile: src/lib.rt\nold: x\nnew: z", f"C/proofs/f/Proof.antt:9:1: error: {DIFFER}", "the log is of another edit"),
