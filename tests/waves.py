@@ -19,10 +19,11 @@ import tempfile
 
 ROOT = pathlib.Path(__file__).resolve().parent.parent
 LABEL = re.compile(r"^# (?P<label>\w+) in (?P<function>\w+(?:::\w+)*): \S")
-# What a refusal says when a fact fails: two terms differ, or a goal does not follow.
+# What a refusal says when a fact fails: two terms differ, or a goal does not follow. A bound that was met before shows neither.
 FACT = re.compile(
-    r"the two (types|values) (first )?differ|but this has type|but the extension \(path\) type requires|`omega`: .*(does not follow|fails, at)|`search`: no proof of"
-    r"|`cc` (concluded nothing|did not conclude)|what it leaves must be a path whose two ends are equal",
+    r"the two (types|values) (first )?differ|but this has type|but the extension \(path\) type requires|`omega`: .*(does not follow|fails, at)"
+    r"|`search`: no proof of .*Every way was tried"
+    r"|what it leaves must be a path whose two ends are equal",
     re.S,
 )
 # What it says when only the proof's own text no longer fits: a name, a field or a need that is not there, other code than it walks, or
@@ -194,6 +195,8 @@ MADE_UP = [
     ("# a in f: why\nfile: src/lib.rt\nold: x\nnew: y", "C/proofs/f/Proof.antt:9:1: error: `returns`: record `Else`\n  has no field `divide`", "only its form"),
     ("# a in f: why\nfile: src/lib.rt\nold: x\nnew: y", "C/proofs/f/Proof.antt:9:1: error: `g` is not in scope", "only its form"),
     ("# a in f: why\nfile: src/lib.rt\nold: x\nnew: y", "C/proofs/f/Proof.antt:9:1: error: the two types differ only where one has `r`\n  and the other has `code.function` (found)", "only its form"),
+    ("# a in f: why\nfile: src/lib.rt\nold: x\nnew: y", "C/proofs/f/Proof.antt:9:1: error: `returns`: `search`: no proof of `a`\n  was found. Every way was tried: a deeper search would find nothing either", None),
+    ("# a in f: why\nfile: src/lib.rt\nold: x\nnew: y", "C/proofs/f/Proof.antt:9:1: error: `returns`: `search`: no proof of `a`\n  was found. It stopped 5 lemmas deep, with lemmas still to try", "no fact fails in f"),
     ("# a in f: why\nfile: src/lib.rt\nold: x\nnew: y", "C/proofs/f/Proof.antt:9:1: error: `returns`: `cc` met a bound of its own before the equations had joined the two ends", "no fact fails in f"),
     ("# a in f: why\nfile: src/lib.rt\nold: x\nnew: y", "fn C::f: not proved; it calls `C::g`, which is not proved", "nothing is refused in f"),
     ("# a in f: why\nfile: specs/A.antt\nold: x\nnew: y", "C/proofs/f/Proof.antt:9:1: error: `g` is not in scope", "no fact that fails"),
