@@ -1,6 +1,8 @@
 // The line program: a line in, a line out, until the input ends. It holds one line, one answer and one
 // book, whatever the length of the input.
+ghost use mathlib.Core.Path.{_≡_};
 ghost use Prim.Native.Nat.{_<_};
+ghost use lib.ListN.{length};
 use book::Book;
 
 mod answers;
@@ -78,11 +80,32 @@ fn serve(chunk: &mut [u8], line: &mut [u8], first: &mut [u8], second: &mut [u8],
     }
 }
 
+// Room for the longest line.
+fn line_room() -> [u8; 524288]
+    ensures { λ r. ⌜ 524288 ≡ length r ⌝ }
+{
+    [0; 524288]
+}
+
+// Room for the bytes that a line can spell.
+fn bytes_room() -> [u8; 262144]
+    ensures { λ r. ⌜ 262144 ≡ length r ⌝ }
+{
+    [0; 262144]
+}
+
+// Room for the longest answer: a line's bytes again, behind other values.
+fn answer_room() -> [u8; 525312]
+    ensures { λ r. ⌜ 525312 ≡ length r ⌝ }
+{
+    [0; 525312]
+}
+
 fn main() {
     let mut chunk = io::large_buffer();
-    let mut line = [0u8; 524288];
-    let mut first = [0u8; 262144];
-    let mut second = [0u8; 262144];
-    let mut out = [0u8; 525312];
+    let mut line = line_room();
+    let mut first = bytes_room();
+    let mut second = bytes_room();
+    let mut out = answer_room();
     serve(&mut chunk, &mut line, &mut first, &mut second, &mut out);
 }

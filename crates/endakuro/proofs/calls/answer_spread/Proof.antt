@@ -18,6 +18,6 @@ values-count c = simp length-take (omega arith)
 pub answer-spread-spec : {M : Type 1} → Rattle.endakuro.proofs.calls.answer_spread.Statement.statement M
 answer-spread-spec =
     tie.close
-    (tie.spec Inv-loop μ-loop (search needs) (search needs) (search needs) (search needs) (search needs) (search needs) (search needs)
-    (λ c. search needs) (search needs) (search needs) (search needs) values-count (search needs) (search needs) (search needs) (search needs)
+    (tie.spec Inv-loop μ-loop (search needs) (λ c. omega arith) (search needs) (λ c. omega arith) (λ c. omega arith) (λ c. omega arith) (λ c. omega arith)
+    (λ c. search needs) (search needs) (search needs) (λ c. omega arith) values-count (search needs) (search needs) (search needs) (search needs)
     (search needs) (search needs))

@@ -1,5 +1,6 @@
 -- `endakuro::keeping::add_waiting` is safe and ends.
 use Prim.Native.Nat.{_-_, _≤_}
+use native.Mathlib.Omega.{arith}
 use borrow.Author.Needs.{needs}
 use lib.ListN.{length}
 use mathlib.Core.Path.{_≡_}
@@ -14,5 +15,5 @@ abbrev μ-loop : tie.MeasureT-loop
 pub add-waiting-spec : {M : Type 1} → Rattle.endakuro.proofs.keeping.add_waiting.Statement.statement M
 add-waiting-spec =
     tie.close
-    (tie.spec Inv-loop μ-loop (search needs) (search needs) (search needs) (search needs) (search needs) (search needs) (search needs) (search needs)
-    (search needs) (search needs) (search needs) (search needs))
+    (tie.spec Inv-loop μ-loop (search needs) (search needs) (search needs) (λ c. omega arith) (λ c. omega arith) (search needs) (search needs) (λ c. omega arith)
+    (λ c. omega arith) (search needs) (search needs) (search needs))

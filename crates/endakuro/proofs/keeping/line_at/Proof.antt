@@ -1,5 +1,6 @@
 -- `endakuro::keeping::line_at` is safe and ends.
 use Prim.Native.Nat.{_-_, _≤_}
+use native.Mathlib.Omega.{arith}
 use borrow.Author.Needs.{needs}
 use lib.ListN.{length}
 use mathlib.Core.Path.{_≡_}
@@ -14,5 +15,5 @@ abbrev μ-loop : tie.MeasureT-loop
 pub line-at-spec : {M : Type 1} → Rattle.endakuro.proofs.keeping.line_at.Statement.statement M
 line-at-spec =
     tie.close
-    (tie.spec Inv-loop μ-loop (search needs) (search needs) (search needs) (search needs) (search needs) (search needs) (search needs) (search needs)
-    (search needs) (λ c. search needs) (search needs) (search needs) (search needs) (search needs))
+    (tie.spec Inv-loop μ-loop (λ c. omega arith) (λ c. omega arith) (search needs) (λ c. omega arith) (search needs) (λ c. omega arith) (λ c. omega arith) (λ c. omega arith)
+    (λ c. omega arith) (λ c. search needs) (λ c. omega arith) (search needs) (λ c. omega arith) (search needs))

@@ -1,5 +1,6 @@
 -- `endakuro::keeping::say_book` is safe and ends.
 use Prim.Native.Nat.{_-_, _≤_}
+use native.Mathlib.Omega.{arith}
 use borrow.Author.Needs.{needs}
 use lib.ListN.{length}
 use mathlib.Core.Path.{_≡_}
@@ -15,4 +16,4 @@ pub say-book-spec : {M : Type 1} → Rattle.endakuro.proofs.keeping.say
 say-book-spec =
     tie.close
     (tie.spec Inv-loop μ-loop (search needs) (search needs) (search needs) (search needs) (search needs) (search needs) (search needs) (search needs)
-    (search needs) (search needs) (search needs) (search needs) (search needs) (search needs) (search needs) (search needs))
+    (λ c. omega arith) (λ c. omega arith) (search needs) (λ c. omega arith) (λ c. omega arith) (search needs) (search needs) (search needs))
