@@ -41,58 +41,64 @@ use Rattle.book.specs.Sound.{isLineSound, isSoundAt, areLinesSound, isSound}
 use Rattle.book.specs.Calls.{callFault, hasRoom, entryFault, requestFault, requestOf, entered, afterRequest}
 use Rattle.promises.specs.Figures.{prover, run, fillBytes, fill, six, passes, drawn, ticket, reportOn, sent, Figures, Besides}
 
-pub figures : Figures
+-- both tables by reckoning alone: what their figures are made of, unfolded once
+reckoned : Figures × Besides
 unfolding prover run fillBytes fill six passes drawn ticket reportOn temperatureOk drawProverOk drawMeasureOk pressureOk coefficientOk modulusOk diameterOk wallOk compressibilityOk ctlOk ctdwOk runFactorOk volumeOk pulsesOk kFactorOk runsOk passesOk fillsOk certifiedOk scaleOk readingOk meterFactorOk sedimentOk roundedDiv rounded sumOf numberAt byteAt wordAt longAt signedOf signedAt isZeroAt zeroBetween bytesOf recordsIn areRecords firstToLast placeIf meanOf listed smallest largest qualifies groupAt qualifiesAt firstGroup metalOk pipeOk proverOk liquidOk cplFrom ctsAt cpsAt cplAt combinedAt correctedAt cts cps cpl combined ctsOf cpsOf cplOf sideOk runOk indicatedBy steelCts steelCps correctedBy atProver atMeter figuresFrom runFigures givenFault figuresFault figuresTold workedOf listOf fieldsOf bytesOfReport factorsOk firstOk jobOk reportOk isReport reportOf writeOf readOf fiveAt fillFrom fillAt fillOk unnamedOk follows ruleOk adjusted measureCts proverCts ccts drawnBy fillFigures passCount isOf drawnFor passSum passPressure waterAt correctedVolume passVolume volumesOf barrelsOf baseFrom baseOf recordFault fillFault drawFault fillOf drawOf ticketOk indicated factor gross net volumes ticketOf numerator denominator awayFromZero wholeOf singleOf temperatureOf psiOk pressureOf liveOf ofBits waiting lineOf isOneOf areProper shippers overShippers places reserve ceiling commons lineAt waitingOf has beyond commonsUsed put emptyBook isLineSound isSoundAt areLinesSound isSound hasRoom callFault entryFault requestFault requestOf entered afterRequest sent
-figures = record {
-  cts-at-70 = refl;
-  cts-at-50 = refl;
-  cts-of-mild-steel = refl;
-  cps-at-50 = refl;
-  cpl-of-water = refl;
-  one-run = refl;
-  five-qualify = refl;
-  five-mean = refl;
-  may-stand = refl;
-  may-not = refl;
-  begins-at-run-2 = refl;
-  report-for-7 = refl;
-  report-read-back = refl;
-  one-fill = refl;
-  one-barrel = refl;
-  one-ticket = refl;
-  reading-73 = refl;
-  reading-below-0 = refl;
-  ninth = refl;
-  fifth = refl;
-  first = refl;
-}
+reckoned = (
+  record {
+    cts-at-70 = refl;
+    cts-at-50 = refl;
+    cts-of-mild-steel = refl;
+    cps-at-50 = refl;
+    cpl-of-water = refl;
+    one-run = refl;
+    five-qualify = refl;
+    five-mean = refl;
+    may-stand = refl;
+    may-not = refl;
+    begins-at-run-2 = refl;
+    report-for-7 = refl;
+    report-read-back = refl;
+    one-fill = refl;
+    one-barrel = refl;
+    one-ticket = refl;
+    reading-73 = refl;
+    reading-below-0 = refl;
+    ninth = refl;
+    fifth = refl;
+    first = refl;
+  },
+  record {
+    no-volume = refl;
+    no-factor = refl;
+    first-not-tightest = refl;
+    by-smallest-not-mean = refl;
+    half-goes-up = refl;
+    wide-mean = refl;
+    buffer-first = refl;
+    number-next = refl;
+    report-last = refl;
+    pass-volumes = refl;
+    from-second = refl;
+    back = refl;
+    skipped = refl;
+    mixed = refl;
+    range-first = refl;
+    two-fills = refl;
+    one-pass = refl;
+    equal-readings = refl;
+    closing-below = refl;
+    field-first = refl;
+    little-below = refl;
+    half-below = refl;
+    minus-zero = refl;
+    just-within = refl;
+    temperature-first = refl;
+  },
+)
+
+pub figures : Figures
+figures = reckoned .0
 
 pub besides : Besides
-unfolding prover run fillBytes fill six passes drawn ticket reportOn temperatureOk drawProverOk drawMeasureOk pressureOk coefficientOk modulusOk diameterOk wallOk compressibilityOk ctlOk ctdwOk runFactorOk volumeOk pulsesOk kFactorOk runsOk passesOk fillsOk certifiedOk scaleOk readingOk meterFactorOk sedimentOk roundedDiv rounded sumOf numberAt byteAt wordAt longAt signedOf signedAt isZeroAt zeroBetween bytesOf recordsIn areRecords firstToLast placeIf meanOf listed smallest largest qualifies groupAt qualifiesAt firstGroup metalOk pipeOk proverOk liquidOk cplFrom ctsAt cpsAt cplAt combinedAt correctedAt cts cps cpl combined ctsOf cpsOf cplOf sideOk runOk indicatedBy steelCts steelCps correctedBy atProver atMeter figuresFrom runFigures givenFault figuresFault figuresTold workedOf listOf fieldsOf bytesOfReport factorsOk firstOk jobOk reportOk isReport reportOf writeOf readOf fiveAt fillFrom fillAt fillOk unnamedOk follows ruleOk adjusted measureCts proverCts ccts drawnBy fillFigures passCount isOf drawnFor passSum passPressure waterAt correctedVolume passVolume volumesOf barrelsOf baseFrom baseOf recordFault fillFault drawFault fillOf drawOf ticketOk indicated factor gross net volumes ticketOf numerator denominator awayFromZero wholeOf singleOf temperatureOf psiOk pressureOf liveOf ofBits
-besides = record {
-  no-volume = refl;
-  no-factor = refl;
-  first-not-tightest = refl;
-  by-smallest-not-mean = refl;
-  half-goes-up = refl;
-  wide-mean = refl;
-  buffer-first = refl;
-  number-next = refl;
-  report-last = refl;
-  pass-volumes = refl;
-  from-second = refl;
-  back = refl;
-  skipped = refl;
-  mixed = refl;
-  range-first = refl;
-  two-fills = refl;
-  one-pass = refl;
-  equal-readings = refl;
-  closing-below = refl;
-  field-first = refl;
-  little-below = refl;
-  half-below = refl;
-  minus-zero = refl;
-  just-within = refl;
-  temperature-first = refl;
-}
+besides = reckoned .1
