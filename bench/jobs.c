@@ -23,20 +23,45 @@ typedef struct {
 static Job inputs[CHUNK];
 static Answer answers[SIDES][CHUNK];
 
+// The liquid of a job; one in two boils at line conditions.
+typedef struct {
+    int64_t ctl, f, pe;
+} Liquid;
+
+static Liquid some_liquid(Chance *chance) {
+    return (Liquid){.ctl = between(chance, 9500, 10200),
+                    .f = between(chance, 300, 1000),
+                    .pe = once_in(chance, 2) ? between(chance, 50, 250) : 0};
+}
+
 // Runs that differ by a few pulses in 10,000, so that the first qualifying five come early, late or never.
-static void make_run(Chance *chance, uint8_t *record, int64_t pulses, int64_t scatter, int64_t ctl, int64_t f) {
+static void make_run(Chance *chance, uint8_t *record, int64_t pulses, int64_t scatter, const Liquid *liquid) {
     memset(record, 0, RECORD_BYTES);
     put(record, 4, pulses + pulses * between(chance, -scatter, scatter) / 100000);
     int64_t t = between(chance, 600, 900);
     put(record + 4, 2, t);
     put(record + 6, 2, t + between(chance, -5, 5));
-    int64_t p = between(chance, 20, 300);
+    int64_t p = liquid->pe + between(chance, 20, 300);
     put(record + 8, 2, p);
     put(record + 10, 2, p + between(chance, -20, 20));
-    put(record + 12, 2, ctl + between(chance, -1, 1));
-    put(record + 14, 2, ctl);
-    put(record + 16, 2, f);
-    put(record + 18, 2, f);
+    put(record + 12, 2, liquid->ctl + between(chance, -1, 1));
+    put(record + 14, 2, liquid->ctl);
+    put(record + 16, 2, liquid->f);
+    put(record + 18, 2, liquid->f);
+    if (liquid->pe == 0) return;
+    put(record + 20, 2, liquid->pe);
+    // never above the meter's pressure, which may be as low as the prover's Pe
+    put(record + 22, 2, liquid->pe - between(chance, 0, 9));
+}
+
+// An equilibrium pressure at its P or past it, a byte without a name, or any byte.
+static void damage_run(Chance *chance, uint8_t *record) {
+    int64_t meter = between(chance, 0, 1);
+    switch (between(chance, 0, 2)) {
+    case 0: put(record + 20 + 2 * meter, 2, word_at(record + 8 + 2 * meter) + between(chance, -1, 2)); break;
+    case 1: record[between(chance, 24, RECORD_BYTES - 1)] = (uint8_t)any(chance); break;
+    default: record[between(chance, 0, RECORD_BYTES - 1)] = (uint8_t)any(chance);
+    }
 }
 
 static void damage(Chance *chance, Job *job) {
@@ -47,7 +72,12 @@ static void damage(Chance *chance, Job *job) {
     case 3: job->k = (uint32_t)(once_in(chance, 2) ? between(chance, 0, 100) : between(chance, 0, UINT32_MAX)); break;
     case 4: job->limit = (uint16_t)between(chance, 0, 102); break;
     case 5: damage_prover(chance, &job->prover); break;
-    default: job->records[between(chance, 0, BYTES - 1)] = (uint8_t)any(chance);
+    default: {
+        uint8_t *record = job->records + RECORD_BYTES * between(chance, 0, RUNS - 1);
+        damage_run(chance, record);
+        // twice in one record: then the order of its refusals is seen
+        if (once_in(chance, 2)) damage_run(chance, record);
+    }
     }
 }
 
@@ -61,9 +91,10 @@ static void make(Chance *chance, int count, bool damaged) {
         job->size = BYTES;
         job->room = RECORD_BYTES;
         int64_t pulses = (int64_t)job->prover.base * job->k / 10000000;
-        int64_t scatter = between(chance, 5, 60), ctl = between(chance, 9500, 10200), f = between(chance, 300, 1000);
+        int64_t scatter = between(chance, 5, 60);
+        Liquid liquid = some_liquid(chance);
         for (int run = 0; run < RUNS; run++)
-            make_run(chance, job->records + RECORD_BYTES * run, pulses, scatter, ctl, f);
+            make_run(chance, job->records + RECORD_BYTES * run, pulses, scatter, &liquid);
         if (damaged) damage(chance, job);
     }
     // bytes that no side has written yet are the same for all

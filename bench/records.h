@@ -9,6 +9,10 @@ static inline void put(uint8_t *at, int bytes, int64_t x) {
     for (int i = 0; i < bytes; i++) at[i] = (uint8_t)((uint64_t)x >> 8 * i);
 }
 
+static inline int64_t word_at(const uint8_t *at) {
+    return at[0] | at[1] << 8;
+}
+
 // A prover as they are built: one of the four metals, or one time in four a certificate.
 static inline EndakuroProver some_prover(Chance *chance) {
     return (EndakuroProver){.base = (uint32_t)between(chance, 100000, 1000000),

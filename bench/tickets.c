@@ -6,13 +6,14 @@ static EndakuroTicket inputs[CHUNK];
 static EndakuroVolumes answers[SIDES][CHUNK];
 
 static void damage(Chance *chance, EndakuroTicket *ticket) {
-    switch (between(chance, 0, 6)) {
+    switch (between(chance, 0, 7)) {
     case 0: ticket->opening = (uint32_t)between(chance, 99999998, 100000001); break;
     case 1: ticket->closing = ticket->opening - (uint32_t)between(chance, 0, 2); break;
     case 2: ticket->mf = (uint16_t)any(chance); break;
     case 3: ticket->ctl = (uint16_t)any(chance); break;
     case 4: ticket->pressure = (uint16_t)between(chance, 1499, 1502); break;
     case 5: ticket->compressibility = (uint16_t)between(chance, 9999, 10002); break;
+    case 6: ticket->equilibrium = (uint16_t)(ticket->pressure + between(chance, -1, 2)); break;
     default: ticket->sediment = (uint32_t)between(chance, 99999, 100002);
     }
 }
@@ -27,6 +28,8 @@ static void make(Chance *chance, int count, bool damaged) {
                                    .compressibility = (uint16_t)between(chance, 0, 10000),
                                    .sediment = (uint32_t)between(chance, 0, 100000)};
         ticket->closing = (uint32_t)between(chance, ticket->opening, 99999999);
+        // one in two of a liquid that boils
+        if (once_in(chance, 2)) ticket->equilibrium = (uint16_t)between(chance, 0, ticket->pressure);
         if (damaged) damage(chance, ticket);
     }
 }

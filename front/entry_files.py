@@ -82,7 +82,9 @@ def lines_of(file, key, headings, left_out):
             file.places[(number,)] = line
             if len(row) > len(columns):
                 file.fault(line, f"{key} {number}: has {len(row)} cells, and there are {len(columns)} headings")
-            yield Table(file, f"{key} {number}", values_of(row, columns), (number,))
+            table = Table(file, f"{key} {number}", values_of(row, columns), (number,))
+            table.needed = {own for own, _ in columns}
+            yield table
 
 
 def columns_of(file, row, headings, left_out):

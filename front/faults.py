@@ -1,6 +1,8 @@
 """What of a job a refusal is about: the record, the field, its value and its range. Found by comparing with the
 table of ranges, or by asking the line program; nothing is worked out here."""
 
+from dataclasses import replace
+
 from . import fields, figures
 from .program import Refused, hexed
 from .records import FILL_LAYOUT, RUN_LAYOUT
@@ -22,6 +24,24 @@ def out_of_range(counts, known, at=""):
         for key, field in known.items()
         if not field.within(counts[key])
     ]
+
+
+def of_fields(counts, known, at=""):
+    """What is out of range, and then each equilibrium pressure that is above its pressure: that P is refused as one out
+    of range is."""
+    return [*out_of_range(counts, known, at), *above_pressure(counts, known, at)]
+
+
+def above_pressure(counts, known, at):
+    found = []
+    for key, limit in fields.AT_MOST.items():
+        # One that is out of range is told already.
+        if key in known and counts[limit] < counts[key] <= known[key].high:
+            # Its range ends at the pressure.
+            own = replace(known[key], high=counts[limit])
+            words = f"{at}{own.label} is {own.text(counts[key])}, above the {known[limit].label}, range {own.range}"
+            found.append(Detail(words, key, counts[key], own.low, own.high, own.unit))
+    return found
 
 
 def of_prover(prover, base_judged):
@@ -69,7 +89,7 @@ def of_proving(job, refusal, program):
             counts = {"k_factor": job.k_factor, "repeatability_limit": job.limit}
             return out_of_range(counts, fields.named(fields.K_FACTOR, fields.LIMIT))
         case 5:
-            return out_of_range(run.counts, fields.RUN, at)
+            return of_fields(run.counts, fields.RUN, at)
         case 2:
             return of_unnamed_bytes(run.record, RUN_LAYOUT, at)
         case 7:
@@ -127,7 +147,7 @@ def broken_pass(fills):
 
 def of_ticket(job, refusal, program):
     if refusal.number == 10:
-        return out_of_range(job.counts, fields.TICKET)
+        return of_fields(job.counts, fields.TICKET)
     opening, closing = (fields.TICKET[key].text(job.counts[key]) for key in ("opening", "closing"))
     words = f"closing reading is {closing}, range {opening} (the opening reading) or more"
     known = fields.TICKET["closing"]

@@ -35,6 +35,8 @@ class Field:
     low: int
     high: int
     place: str
+    # What it is where a file does not say it; None where a file must.
+    default: int | None = None
 
     def text(self, count):
         return self.unit.text(count)
@@ -53,6 +55,15 @@ class Field:
 
 def named(*fields):
     return {field.key: field for field in fields}
+
+
+def given(known, listed):
+    """The fields that a page of such counts has: one that a file may leave out only where some of them has it."""
+    return {
+        key: field
+        for key, field in known.items()
+        if field.default is None or any(counts[key] != field.default for counts in listed)
+    }
 
 
 METALS = ("mild carbon", "304 stainless", "316 stainless", "17-4 PH")
@@ -76,6 +87,8 @@ HOUSE_LIMIT = 5
 DRAW_LIMIT = 2
 # 01: 'For water F is 320'.
 WATER = 320
+# The equilibrium pressure of a liquid that does not boil at line conditions, water among them.
+DOES_NOT_BOIL = 0
 
 RUN = named(
     Field("pulses", "pulses", PULSE, 1, 100_000_000, "I"),
@@ -87,6 +100,8 @@ RUN = named(
     Field("meter_ctl", "meter CTL", FACTOR, 5000, 15000, "H"),
     Field("prover_compressibility", "prover compressibility F", PER_PSI, 0, 10000, "H"),
     Field("meter_compressibility", "meter compressibility F", PER_PSI, 0, 10000, "H"),
+    Field("prover_equilibrium_pressure", "prover equilibrium pressure Pe", PSI, 0, 1500, "H", DOES_NOT_BOIL),
+    Field("meter_equilibrium_pressure", "meter equilibrium pressure Pe", PSI, 0, 1500, "H", DOES_NOT_BOIL),
 )
 INDICATED = Field("", "indicated volume", BARREL, 1, 100_000_000, "I")
 RUN_FACTOR = Field("", "run factor", FACTOR, 8000, 12000, "H")
@@ -110,8 +125,14 @@ TICKET = named(
     Field("ctl", "CTL", FACTOR, 5000, 15000, "H"),
     Field("pressure", "pressure", PSI, 0, 1500, "H"),
     Field("compressibility", "compressibility F", PER_PSI, 0, 10000, "H"),
+    Field("equilibrium_pressure", "equilibrium pressure Pe", PSI, 0, 1500, "H", DOES_NOT_BOIL),
     Field("sediment_and_water", "sediment and water", SEDIMENT_PERCENT, 0, 100_000, "I"),
 )
+
+# The pressure that an equilibrium pressure may not lie above, in a run and on a ticket.
+AT_MOST = {f"{side}equilibrium_pressure": f"{side}pressure" for side in ("prover_", "meter_", "")}
+# How pages and worksheets write the CPL of a liquid that has one.
+CPL_FROM_PE = "1 / (1 - F x (P - Pe))"
 
 LIVE = named(
     Field("temperature", "temperature", DEGREE, -200, 2000, "h"),

@@ -95,7 +95,7 @@ def of_passes(job, program):
             "pressure": pressure,
             "sum": total,
             "cps": program.numbers("cps", pressure, *pipe, 6)[0],
-            "cpl": program.numbers("cpl", pressure, fields.WATER, 6)[0],
+            "cpl": program.numbers("cpl", pressure, fields.WATER, fields.DOES_NOT_BOIL, 6)[0],
             "volume": volume,
         }
         for (number, pressure), total, volume in zip(pressures.items(), sums, volumes)
@@ -112,8 +112,9 @@ def ticket(job, program):
     counts = job.counts
     factor, gross, net = program.numbers("ticket", *counts.values())
     one = fields.FACTOR.count("1")
-    indicated = program.numbers("ticket", counts["opening"], counts["closing"], one, one, 0, 0, 0)[1]
-    cpl = program.numbers("cpl", counts["pressure"], counts["compressibility"], 4)[0]
+    indicated = program.numbers("ticket", counts["opening"], counts["closing"], one, one, 0, 0, 0, 0)[1]
+    liquid = (counts[key] for key in ("pressure", "compressibility", "equilibrium_pressure"))
+    cpl = program.numbers("cpl", *liquid, 4)[0]
     return {"indicated": indicated, "cpl": cpl, "factor": factor, "gross": gross, "net": net}
 
 

@@ -20,7 +20,7 @@ the unit has is an error, never a rounding. A number may stand alone (73.5) or i
 under any key; {", ".join(fields.HEADING)}
 have names of their own there. All faults of a file are told at once, each with its line."""
 
-WIDTH = 26
+WIDTH = 28
 
 
 def row(key, words):
@@ -28,7 +28,11 @@ def row(key, words):
 
 
 def keys(known):
-    return [row(field.key, f"{field.label}, {field.range}") for field in known.values()]
+    return [row(field.key, f"{field.label}, {field.range}{left_out(field)}") for field in known.values()]
+
+
+def left_out(field):
+    return "" if field.default is None else f"; {field.text(field.default)} where it is left out"
 
 
 def prover(base):

@@ -50,8 +50,8 @@ def abbreviates(said, key):
 
 
 def names_a_part(said, key):
-    """temp is prover_temperature or meter_temperature."""
-    return len(said) > 2 and any(part.startswith(said) for part in key.split("_"))
+    """temp is prover_temperature or meter_temperature, equilibrium_pressure that of either."""
+    return len(said) > 2 and (key.endswith(f"_{said}") or any(part.startswith(said) for part in key.split("_")))
 
 
 def offer(offered, known):

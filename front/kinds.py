@@ -55,6 +55,11 @@ class Proving:
     def records(self):
         return b"".join(run.record for run in self.runs)
 
+    @property
+    def shown(self):
+        """The fields of a run that its page and worksheet have."""
+        return fields.given(fields.RUN, [run.counts for run in self.runs])
+
 
 @dataclass(frozen=True)
 class Draw:
@@ -79,6 +84,11 @@ class Ticket:
     digest: str = ""
     files: tuple = ()
     kind = "ticket"
+
+    @property
+    def shown(self):
+        """The fields that its page and worksheet have."""
+        return fields.given(fields.TICKET, [self.counts])
 
 
 @dataclass(frozen=True)

@@ -46,7 +46,7 @@ class Program:
 
     def ready(self):
         """Up and answering, before anything is begun that must not be left half done."""
-        self.ask("cpl", 0, 0, 4)
+        self.ask("cpl", 0, 0, 0, 4)
 
     def __exit__(self, *_):
         if not self.process:

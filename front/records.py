@@ -24,5 +24,5 @@ class Layout:
         return {key: value for key, value in zip(self.keys, self.struct.unpack(record)) if key}
 
 
-RUN_LAYOUT = Layout(RUN, [*RUN, UNNAMED], ["12s"])
+RUN_LAYOUT = Layout(RUN, [*RUN, UNNAMED], ["8s"])
 FILL_LAYOUT = Layout(FILL, [*list(FILL)[:-1], UNNAMED, "pressure", UNNAMED], ["1s", "12s"])

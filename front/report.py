@@ -6,6 +6,7 @@ from .page import Grid, Notes, Octets, Page, Pairs, Section, Signatures
 from .units import shown
 
 TITLE, RIGHT = "METER PROVING REPORT", "pipe prover, API MPMS 12.2"
+SIDES = ("prover", "meter")
 # Columns by group: a heading, a unit, and what of a run it shows, a count of its record or a figure.
 READ = (
     ("", (("Pulses", "", "pulses"),)),
@@ -15,11 +16,12 @@ READ = (
             (
                 ("T", "°F", f"{side}_temperature"),
                 ("P", "psi", f"{side}_pressure"),
+                ("Pe", "psi", f"{side}_equilibrium_pressure"),
                 ("CTL", "", f"{side}_ctl"),
                 ("F", "per psi", f"{side}_compressibility"),
             ),
         )
-        for side in ("prover", "meter")
+        for side in SIDES
     ),
 )
 STEPS = (
@@ -48,6 +50,7 @@ VOLUMES = ("indicated", "prover_volume", "meter_volume")
 # Columns whose average no entry of the program tells: it is written in by hand, as on the form of the standard.
 AVERAGED = ("pulses", "prover_temperature", "prover_pressure", "meter_temperature", "meter_pressure")
 READ_KEY = ("P in psi gage. CTL and F are given with each run.",)
+READ_KEY_OF_PE = ("P and the equilibrium pressure Pe in psi gage. CTL, F and Pe are given with each run.",)
 STEPS_KEY = (
     "CCFp = CTS x CPS x CTL x CPL, prover volume = base volume x CCFp. Indicated = pulses / K,",
     "CCFm = CTL x CPL, meter volume = indicated x CCFm. Run factor = prover volume / meter volume.",
@@ -97,9 +100,11 @@ def table(job, figures, columns, accepted, foot=()):
 
 def readings(job, accepted):
     """What was read; beneath it lines for the averages, as the standard's form has them."""
-    keys = [key for _, own in READ for *_, key in own]
+    known = job.shown
+    columns = [(name, [column for column in own if column[-1] in known]) for name, own in READ]
+    keys = [key for _, own in columns for *_, key in own]
     foot = ["avg", "*", *("____" if key in AVERAGED else "" for key in keys)] if accepted else ()
-    return table(job, [{}] * len(job.runs), READ, accepted, foot)
+    return table(job, [{}] * len(job.runs), columns, accepted, foot)
 
 
 def steps(worked):
@@ -108,6 +113,15 @@ def steps(worked):
     columns = [key for _, own in STEPS for *_, key in own]
     foot = ["avg", "*", *[""] * (len(columns) - 1), shown(outcome.factor, FACTOR.places)] if outcome else ()
     return table(worked.job, worked.runs, STEPS, worked.accepted, foot)
+
+
+def keys_of(job):
+    """The notes below what was read and below the steps: a word of Pe only where a liquid has one."""
+    without = [side for side in SIDES if f"{side}_equilibrium_pressure" not in job.shown]
+    if len(without) == len(SIDES):
+        return READ_KEY, STEPS_KEY
+    cpl = f"CPL = {fields.CPL_FROM_PE}" + "".join(f"; at the {side} Pe is 0" for side in without)
+    return READ_KEY_OF_PE, (f"{cpl}.", *STEPS_KEY)
 
 
 def repeatability(worked):
@@ -143,10 +157,11 @@ def conclusion(worked):
 
 def build(worked):
     job = worked.job
+    below_read, below_steps = keys_of(job)
     blocks = [*page.heading(job), Section("A. SETTINGS"), settings(job), Section("B. RUNS")]
-    blocks += [readings(job, worked.accepted), Notes(READ_KEY)]
+    blocks += [readings(job, worked.accepted), Notes(below_read)]
     if worked.runs:
-        blocks += [steps(worked), Notes(STEPS_KEY)]
+        blocks += [steps(worked), Notes(below_steps)]
         blocks += [Section("C. REPEATABILITY"), repeatability(worked), *conclusion(worked)]
     nearest = [spreads.nearest("five: runs", worked.group, job.limit)] if worked.runs else []
     return Page(TITLE, RIGHT, [*blocks, Signatures("Proved")], page.verdict(worked.refusal, nearest))

@@ -1,31 +1,33 @@
 """The short pages: a measurement ticket, a live reading, a report record read back."""
 
 from . import fields, page, version
-from .fields import FACTOR, LIVE, READING, TICKET
+from .fields import CPL_FROM_PE, FACTOR, LIVE, READING
 from .page import Page, Pairs, Section, Signatures
 from .records import LENGTH
 from .units import shown
 
 TICKET_LABELS = {
     "opening": "Opening reading", "closing": "Closing reading", "meter_factor": "Meter factor", "ctl": "CTL",
-    "pressure": "Pressure", "compressibility": "Compressibility F", "sediment_and_water": "Sediment and water",
+    "pressure": "Pressure", "compressibility": "Compressibility F", "equilibrium_pressure": "Equilibrium pressure Pe",
+    "sediment_and_water": "Sediment and water",
 }  # fmt: skip
 
 
 def ticket(worked):
     job, figures = worked.job, worked.answer
-    given = Pairs([(label, TICKET[key].text(job.counts[key])) for key, label in TICKET_LABELS.items()])
+    given = Pairs([(TICKET_LABELS[key], field.text(job.counts[key])) for key, field in job.shown.items()])
     blocks = [*page.heading(job), Section("A. READINGS AND FACTORS"), given]
     if figures:
-        blocks += [Section("B. VOLUMES"), volumes(figures)]
+        blocks += [Section("B. VOLUMES"), volumes(figures, "equilibrium_pressure" in job.shown)]
     return Page("MEASUREMENT TICKET", "API MPMS 12.2", [*blocks, Signatures("Issued")], page.verdict(worked.refusal))
 
 
-def volumes(figures):
+def volumes(figures, boils):
+    how = f", {CPL_FROM_PE}" if boils else ""
     return Pairs(
         [
             ("Indicated", f"{READING.text(figures['indicated'])}, closing - opening"),
-            ("CPL", shown(figures["cpl"], FACTOR.places)),
+            ("CPL", f"{shown(figures['cpl'], FACTOR.places)}{how}"),
             ("Factor", f"{shown(figures['factor'], FACTOR.places)}, meter factor x CTL x CPL"),
             ("Gross standard", f"{READING.text(figures['gross'])}, indicated x factor"),
             ("Net standard", f"{READING.text(figures['net'])}, gross less sediment and water"),

@@ -14,6 +14,8 @@ class Table:
         self.file, self.place, self.path = file, place, path
         # Keys that are there under a name that nearly says them.
         self.slipped = set()
+        # Keys that may not be left out, though a field has a default: those of a CSV's columns.
+        self.needed = set()
         # A table that is not there lacks nothing more.
         self.whole = isinstance(values, dict)
         if not self.whole:
@@ -67,6 +69,8 @@ class Table:
 
     def count(self, field, default=None):
         """A field's number in counts of its unit; its least where there is none to be had."""
+        if default is None and field.key not in self.needed:
+            default = field.default
         if field.key not in self.values:
             if default is None:
                 self.lacks(field.key, f"the {field.label}, {field.range}")

@@ -20,11 +20,16 @@ RUNS += (("17746", "64.0", "65.5"), ("17747", "64.0", "65.5"))
 OF_A_RUN = ("pulses", "prover_temperature", "meter_temperature")
 FILLS = (("1", "12.50"), ("2", "12.75"), ("3", "12.25"))
 OF_A_FILL = ("pass", "scale_reading")
+# In place of a value: the key stands there as a note, for those who need it.
+LEFT_OUT = None
 PROVER = {"inside_diameter": "13.376", "wall_thickness": "0.312", "modulus": "30_000_000"}
 
 
 def row(field, value):
-    return f"{field.key} = {value}".ljust(WIDTH) + f" # {field.label}, {field.range}\n"
+    told = f" # {field.label}, {field.range}"
+    if value is LEFT_OUT:
+        return f"# {field.key} = {field.default}".ljust(WIDTH) + f"{told}: for a liquid that boils\n"
+    return f"{field.key} = {value}".ljust(WIDTH) + f"{told}\n"
 
 
 def rows(known, values):
@@ -55,6 +60,7 @@ def proving():
     shared = {
         "prover_pressure": "80", "meter_pressure": "62", "prover_ctl": "0.9975", "meter_ctl": "0.9965",
         "prover_compressibility": "8.23e-6", "meter_compressibility": "8.29e-6",
+        "prover_equilibrium_pressure": LEFT_OUT, "meter_equilibrium_pressure": LEFT_OUT,
     }  # fmt: skip
     return text + entries("run", fields.RUN, shared, OF_A_RUN, RUNS)
 
@@ -71,7 +77,7 @@ def draw():
 def ticket():
     values = {
         "opening": "12500.00", "closing": "13000.00", "meter_factor": "1.0002", "ctl": "0.9908", "pressure": "40",
-        "compressibility": "6.5e-6", "sediment_and_water": "0.500",
+        "compressibility": "6.5e-6", "equilibrium_pressure": LEFT_OUT, "sediment_and_water": "0.500",
     }  # fmt: skip
     text = HEAD.format(what="A measurement ticket", kind="ticket") + HEADING.format(title="A ticket")
     return text + "\n[ticket]\n" + rows(fields.TICKET, values)

@@ -10,7 +10,7 @@ import zipfile
 import zlib
 from dataclasses import replace
 
-from . import as_json, page, pages, plot, results, version, workbook, worksheets
+from . import as_json, fields, page, pages, plot, results, version, workbook, worksheets
 from . import worked as works
 from .badfile import BadFile
 from .extras import Extras
@@ -47,7 +47,12 @@ def csv_parts(octets):
 
 
 def json_parts(octets):
+    """Its keys without the file's name, and without equilibrium pressures of 0: an earlier version has none of them."""
     told = json.loads(octets)
+    for record in (*told.get("runs", ()), told.get("readings", {})):
+        for key in fields.AT_MOST:
+            if record.get(key) == as_json.figure(fields.DOES_NOT_BOIL, fields.PSI):
+                del record[key]
     told["job"] = {key: value for key, value in told["job"].items() if key != "file"}
     return [f"{key}: {json.dumps(value, ensure_ascii=False)}" for key, value in told.items()]
 

@@ -15,12 +15,12 @@
  *    2 * a byte that has no name is not zero             15  not a report
  *    3   prover setting out of range                     20  book not sound
  *    4   K factor or limit out of range                  21  unknown shipper
- *    5 * record field out of range                       22  number zero
+ *    5 * record field out of range, or P below Pe        22  number zero
  *    6 * pass number or its pressure breaks the rule     23  already waiting
  *    7 * indicated volume out of range after rounding    24  ceiling reached: 8 waiting
  *    8 * run factor out of range                         25  has 2 or more, and the 8 shared places are used up
  *    9   no qualifying group                             26  withdrawn number not waiting
- *   10   ticket field out of range                       27  nothing to take
+ *   10   ticket field out of range, or P below Pe        27  nothing to take
  *   11   closing below opening
  *   12   reading not finite
  *   13   reading out of range
@@ -30,6 +30,7 @@
  *   temperature of prover and meter    0.1 °F                     -200 to 2000
  *   .. in a water draw                 0.1 °F                     prover 350 to 1050, measure 321 to 1050
  *   pressure P                         psi gage                   0 to 1500
+ *   equilibrium pressure Pe            psi gage                   0 to P; 0 where the liquid does not boil
  *   cubical coefficient                10^-7 per °F               100 to 400
  *   modulus E                          psi                        10,000,000 to 40,000,000
  *   inside diameter, wall              0.001 inch                 1000 to 60000, 100 to 3000
@@ -52,13 +53,21 @@
  *
  * RECORDS have 32 bytes each, little-endian; bytes without a name are zero.
  *   Run:    0 pulses (4), 4 prover T (signed 2), 6 meter T (signed 2), 8 prover P, 10 meter P, 12 prover CTL,
- *           14 meter CTL, 16 prover F, 18 meter F (2 each)
+ *           14 meter CTL, 16 prover F, 18 meter F, 20 prover Pe, 22 meter Pe (2 each)
  *   Fill:   0 certified volume (4; 20,000 to 100,000,000 in 0.01 cubic inch), 4 scale reading (signed 2;
  *           -10000 to 10000 in 0.01 cubic inch), 6 prover T, 8 measure T (signed 2), 10 measure's
  *           coefficient (2), 12 CTDW (4), 16 pass (1), 18 pressure (2). Passes start at 1 and never go back
  *           or skip; all fills of a pass carry one pressure
  *   Report: 0 request number (4), 4 job factor (2), 6 first run used (1), 7 runs in job (1), 8 the five
  *           factors (2 each)
+ *
+ * FROM A HEADER WITHOUT Pe, three things have moved; with Pe 0 the answers are those of before.
+ *   CPL takes Pe as its third argument: a call with two is an error.
+ *   EndakuroTicket has `equilibrium` before `sediment`, and 24 bytes where it had 20: set it, to 0 or to Pe. In C
+ *   an initializer by position puts S there, and no error says so.
+ *   A run record's bytes 20 to 23, which had to be zero, are Pe.
+ * Compile every caller again: no linker sees that one was compiled with the older header, and its tickets and
+ * CPL would be wrong. sizeof(EndakuroTicket) tells the two headers apart at compile time.
  */
 #ifndef ENDAKURO_H
 #define ENDAKURO_H
@@ -103,9 +112,9 @@ EndakuroFactor endakuro_cts_six(int16_t t, uint8_t metal, uint16_t coefficient);
 EndakuroFactor endakuro_cps_four(uint16_t p, uint32_t diameter, uint32_t wall, uint32_t modulus);
 EndakuroFactor endakuro_cps_six(uint16_t p, uint32_t diameter, uint32_t wall, uint32_t modulus);
 
-/* CPL, the effect of pressure on the liquid. Refuses 5; record is 0. */
-EndakuroFactor endakuro_cpl_four(uint16_t p, uint16_t f);
-EndakuroFactor endakuro_cpl_six(uint16_t p, uint16_t f);
+/* CPL, the effect of pressure on the liquid: 1 / (1 - F × (P - Pe)). Refuses 5; record is 0. */
+EndakuroFactor endakuro_cpl_four(uint16_t pressure, uint16_t compressibility, uint16_t equilibrium);
+EndakuroFactor endakuro_cpl_six(uint16_t pressure, uint16_t compressibility, uint16_t equilibrium);
 
 /* ---- Proving, by pipe prover ---- */
 
@@ -235,6 +244,7 @@ typedef struct EndakuroTicket {
     uint16_t ctl;             /* 0.0001 */
     uint16_t pressure;        /* psi gage */
     uint16_t compressibility; /* F, 10^-8 per psi */
+    uint16_t equilibrium;     /* Pe, psi gage, at most `pressure` */
     uint32_t sediment;        /* sediment and water S, 0.001 % */
 } EndakuroTicket;
 
@@ -402,8 +412,9 @@ ENDAKURO_AT(EndakuroTicket, mf, 8);
 ENDAKURO_AT(EndakuroTicket, ctl, 10);
 ENDAKURO_AT(EndakuroTicket, pressure, 12);
 ENDAKURO_AT(EndakuroTicket, compressibility, 14);
-ENDAKURO_AT(EndakuroTicket, sediment, 16);
-ENDAKURO_SIZE(EndakuroTicket, 20);
+ENDAKURO_AT(EndakuroTicket, equilibrium, 16);
+ENDAKURO_AT(EndakuroTicket, sediment, 20);
+ENDAKURO_SIZE(EndakuroTicket, 24);
 
 ENDAKURO_AT(EndakuroVolumes, record, 2);
 ENDAKURO_AT(EndakuroVolumes, factor, 4);

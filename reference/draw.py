@@ -6,7 +6,7 @@ from fractions import Fraction
 
 import group
 import ranges
-from factors import WATER_COMPRESSIBILITY, cpl, cps, cts
+from factors import WATER_COMPRESSIBILITY, WATER_EQUILIBRIUM, cpl, cps, cts
 from records import whole_records
 from refusals import (
     NO_GROUP,
@@ -91,7 +91,7 @@ def pass_volume(settings, pressure, drawn):
     """01: "A pass is the sum of its fills, divided by the unrounded product CPS × CPL, then
     rounded"; the two factors are each rounded to 6 places."""
     prover_cps = cps(pressure, settings.inside_diameter, settings.wall, settings.modulus, PLACES)
-    water_cpl = cpl(pressure, WATER_COMPRESSIBILITY, PLACES)
+    water_cpl = cpl(pressure, WATER_COMPRESSIBILITY, WATER_EQUILIBRIUM, PLACES)
     product = Fraction(prover_cps * water_cpl, 10 ** (2 * PLACES))
     return rounded(Fraction(sum(drawn), 10**VOLUME_PLACES) / product, VOLUME_PLACES)
 

@@ -8,6 +8,8 @@ from rounding import rounded
 
 # 01, Factors: "For water F is 320 (003)".
 WATER_COMPRESSIBILITY = 320
+# 02, Liquids that boil: "Water draw uses Pe 0".
+WATER_EQUILIBRIUM = 0
 
 
 @lru_cache(maxsize=4096)
@@ -24,9 +26,10 @@ def cps(pressure, inside_diameter, wall, modulus, places):
 
 
 @lru_cache(maxsize=4096)
-def cpl(pressure, compressibility, places):
-    # "CPL = 1 / (1 - F × P), P gage": F in 10^-8 per psi
-    return rounded(1 / (1 - Fraction(compressibility, 10**8) * pressure), places)
+def cpl(pressure, compressibility, equilibrium, places):
+    # 02, Liquids that boil: "1 / (1 - F × (P - Pe))": F in 10^-8 per psi
+    above = pressure - equilibrium
+    return rounded(1 / (1 - Fraction(compressibility, 10**8) * above), places)
 
 
 def combined(factors, places):

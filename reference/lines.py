@@ -1,4 +1,4 @@
-"""The grammar of the line program: a line in, a line out. README.md holds its readings."""
+"""The grammar of the line program: a line in, a line out. docs/LINES.md holds its readings."""
 
 import re
 from functools import partial
@@ -114,10 +114,11 @@ def answer_cps(pressure, inside_diameter, wall, modulus, to_places):
     return ok(cps(pressure, inside_diameter, wall, modulus, to_places))
 
 
-def answer_cpl(pressure, compressibility, to_places):
-    if not (pressure in ranges.PRESSURE and compressibility in ranges.COMPRESSIBILITY):
+def answer_cpl(*operands):
+    *liquid, to_places = operands
+    if not ranges.liquid_stands(*liquid):
         raise Refused(RECORD_FIELD)
-    return ok(cpl(pressure, compressibility, to_places))
+    return ok(cpl(*liquid, to_places))
 
 
 def answer_prove(request, *operands):
@@ -222,14 +223,14 @@ def answer_empty(_):
 ENTRIES = {
     b"cts": ((i16, u8, u16, places), answer_cts),
     b"cps": ((u16, u32, u32, u32, places), answer_cps),
-    b"cpl": ((u16, u16, places), answer_cpl),
+    b"cpl": ((u16, u16, u16, places), answer_cpl),
     b"prove": ((u32, *SETTINGS, u32, u16, octets, octets), answer_prove),
     b"runs": ((*SETTINGS, u32, u16, octets), answer_runs),
     b"run": ((*SETTINGS, u32, octets), answer_run),
     b"draw": ((*SETTINGS, octets), answer_draw),
     b"fill": ((u8, u16, octets), answer_fill),
     b"passes": ((*SETTINGS, octets), answer_passes),
-    b"ticket": ((u32, u32, u16, u16, u16, u16, u32), answer_ticket),
+    b"ticket": ((u32, u32, *(u16,) * 5, u32), answer_ticket),
     b"live": ((single, single), answer_live),
     b"spread": (List(u64, 20), answer_spread),
     b"write": ((u32, u8, u8, *(u16,) * 5, octets), answer_write),

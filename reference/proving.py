@@ -25,14 +25,16 @@ PLACES = 4
 GROUP = 5
 
 # 01, Records: "Run: 0 pulses (4), 4 prover T (signed 2), 6 meter T (signed 2), 8 prover P,
-# 10 meter P, 12 prover CTL, 14 meter CTL, 16 prover F, 18 meter F (2 each)"; 20 to 31 unnamed.
-LAYOUT = struct.Struct("<IhhHHHHHH12s")
-ZEROS = bytes(12)
+# 10 meter P, 12 prover CTL, 14 meter CTL, 16 prover F, 18 meter F (2 each)". 02, Liquids that
+# boil: "Run records hold it [Pe] at bytes 20 (prover) and 22 (meter)"; 24 to 31 unnamed.
+LAYOUT = struct.Struct("<IhhHHHHHHHH8s")
+ZEROS = bytes(8)
 
 Run = namedtuple(
     "Run",
     "pulses prover_temperature meter_temperature prover_pressure meter_pressure"
-    " prover_ctl meter_ctl prover_compressibility meter_compressibility",
+    " prover_ctl meter_ctl prover_compressibility meter_compressibility"
+    " prover_equilibrium meter_equilibrium",
 )
 
 Figures = namedtuple(
@@ -40,6 +42,14 @@ Figures = namedtuple(
     "indicated cts cps prover_cpl prover_factor meter_cpl meter_product"
     " prover_volume meter_volume factor",
 )
+
+
+def prover_liquid(run):
+    return run.prover_pressure, run.prover_compressibility, run.prover_equilibrium
+
+
+def meter_liquid(run):
+    return run.meter_pressure, run.meter_compressibility, run.meter_equilibrium
 
 
 def judged_run(lent, record):
@@ -50,12 +60,10 @@ def judged_run(lent, record):
         run.pulses in ranges.PULSES
         and run.prover_temperature in ranges.TEMPERATURE
         and run.meter_temperature in ranges.TEMPERATURE
-        and run.prover_pressure in ranges.PRESSURE
-        and run.meter_pressure in ranges.PRESSURE
+        and ranges.liquid_stands(*prover_liquid(run))
+        and ranges.liquid_stands(*meter_liquid(run))
         and run.prover_ctl in ranges.CTL
         and run.meter_ctl in ranges.CTL
-        and run.prover_compressibility in ranges.COMPRESSIBILITY
-        and run.meter_compressibility in ranges.COMPRESSIBILITY
     ):
         raise Refused(RECORD_FIELD, record)
     if unnamed != ZEROS:
@@ -75,10 +83,10 @@ def figures(settings, k_factor, run, record):
     prover_cps = cps(
         run.prover_pressure, settings.inside_diameter, settings.wall, settings.modulus, PLACES
     )
-    prover_cpl = cpl(run.prover_pressure, run.prover_compressibility, PLACES)
+    prover_cpl = cpl(*prover_liquid(run), PLACES)
     prover_factor = combined((prover_cts, prover_cps, run.prover_ctl, prover_cpl), PLACES)
     # "meter factor product from CTL and CPL at the meter"
-    meter_cpl = cpl(run.meter_pressure, run.meter_compressibility, PLACES)
+    meter_cpl = cpl(*meter_liquid(run), PLACES)
     meter_product = combined((run.meter_ctl, meter_cpl), PLACES)
     # "3. Corrected prover volume = base volume × prover factor"
     prover_volume = combined((settings.base_volume, prover_factor), PLACES)

@@ -1,4 +1,5 @@
-"""Units and ranges (01, Units and ranges; Ticket; Records). Both ends are inside."""
+"""Units and ranges (01, Units and ranges; Ticket; Records), both ends inside; and what a liquid's
+pressure may be (02, Liquids that boil)."""
 
 
 def span(first, last):
@@ -28,3 +29,11 @@ CERTIFIED_VOLUME = span(20_000, 100_000_000)  # 0.01 cubic inch
 SCALE_READING = span(-10000, 10000)  # 0.01 cubic inch
 METER_READING = span(0, 99_999_999)  # 0.01 barrel
 SEDIMENT_AND_WATER = span(0, 100_000)  # 0.001 %
+
+
+def liquid_stands(pressure, compressibility, equilibrium):
+    # 02, Liquids that boil: "P below Pe is 5 in a record and 10 on a ticket, in the place of a
+    # range fault of that P"; Pe is "0 to 1500", as every Pe not above such a P is
+    return (
+        pressure in PRESSURE and pressure >= equilibrium and compressibility in COMPRESSIBILITY
+    )

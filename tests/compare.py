@@ -3,7 +3,8 @@
 Run: python3 tests/compare.py --program CMD [--lines N] [--seed S]
      python3 tests/compare.py --self          the reference beside itself: do the cases reach all?
 
-Ends with 0 exactly when no answer differs and every entry and number was reached.
+Ends with 0 exactly when no answer differs and every entry and number was reached, and each place
+where an equilibrium pressure can stand.
 """
 
 import argparse
@@ -15,6 +16,7 @@ from itertools import islice
 from cases import cases
 from cases.grammar import NAMES
 from programs import REFERENCE, Stopped, command, is_silent, run
+from standings import ACCEPTED, FAULTY, SIDES, standings
 
 BATCH = 10_000
 SHOWN = 5
@@ -47,6 +49,10 @@ REACHES = {
 }
 
 
+# What each entry answers where P is below Pe.
+BELOW_EQUILIBRIUM = {"cpl": 5, "ticket": 10, "prove": 5, "runs": NONE, "run": 5}
+
+
 def outcome(answer):
     if answer == b"ok -":
         return NONE
@@ -55,6 +61,11 @@ def outcome(answer):
     if answer.startswith(b"refused "):
         return int(answer.split(b" ")[1])
     return BAD
+
+
+def record_of(answer):
+    """The record that a refusal names, 0 for none."""
+    return int(answer.split(b" ")[2]) if answer.startswith(b"refused ") else 0
 
 
 def entry_of(line):
@@ -74,6 +85,7 @@ class Comparison:
         self.keep = keep
         self.lines = 0
         self.reached = Counter()
+        self.stood = Counter()
         self.differences = 0
 
     def batch(self, lines):
@@ -92,7 +104,7 @@ class Comparison:
             raise Stopped(f"the reference gave {len(reference)} answers to {len(asked)} lines")
         for place, (at, line) in enumerate(asked):
             expected = reference[place]
-            self.reached[entry_of(line), outcome(expected)] += 1
+            self.reach(line, expected)
             found = tested[place] if place < len(tested) else b"(no answer)"
             if found != expected:
                 self.differ(lines, at, expected, found)
@@ -103,6 +115,13 @@ class Comparison:
         if stopped:
             raise Stopped(stopped)
         self.lines += len(lines)
+
+    def reach(self, line, answer):
+        entry, what = entry_of(line), outcome(answer)
+        self.reached[entry, what] += 1
+        if what != BAD:
+            for side, where in standings(entry, line, record_of(answer)):
+                self.stood[entry, side, where, what] += 1
 
     def differ(self, lines, at, expected, found):
         self.differences += 1
@@ -125,6 +144,14 @@ class Comparison:
         ]
         if not self.reached[None, BAD]:
             missing.append("unknown name")
+        for entry, fault in BELOW_EQUILIBRIUM.items():
+            for side in SIDES[entry]:
+                wanted = [(where, OK) for where in ACCEPTED] + [(where, fault) for where in FAULTY]
+                missing += [
+                    f"{entry} {what} with the {side}'s {where}"
+                    for where, what in wanted
+                    if not self.stood[entry, side, where, what]
+                ]
         return missing
 
     def summary(self):

@@ -1,4 +1,4 @@
-"""The figures to hold against (01): each through the line program.
+"""The figures to hold against (01), and 000's propane (02): each through the line program.
 
 Run: python3 tests/figures.py [--program CMD]
 """
@@ -19,7 +19,7 @@ def factor_figures():
     yield "CTS at T 50.0, Gc 250", line("cts", 500, 4, 250, 4), "ok 9998"
     yield "mild steel at 73.5", line("cts", 735, 0, 0, 6), "ok 1000251"
     yield "CPS at 50 psi", line("cps", 50, 10020, 365, 28_000_000, 6), "ok 1000049"
-    yield "water at 50 psi", line("cpl", 50, 320, 6), "ok 1000160"
+    yield "water at 50 psi", line("cpl", 50, 320, 0, 6), "ok 1000160"
     for code, coefficient in enumerate((186, 288, 265, 180)):
         # at 160.0 °F the correction is a hundred coefficients
         expected = 10**6 + 10 * coefficient
@@ -30,6 +30,18 @@ def factor_figures():
 def run_figure():
     job = Job((Run(200_000, 735, 735, 40, 40, 9907, 9908, 820, 820),), Prover(base=200_000))
     yield "the run", job.run(), "ok 200000 10003 10000 10003 9913 10003 9911 198260 198220 10002"
+
+
+def propane_figures():
+    """Figure 6 of 000; who forgets the equilibrium pressure of 115 psi finds 0.9545."""
+
+    def told(equilibrium):
+        pressures = (equilibrium, equilibrium)
+        run = Run(28631, 770, 765, 385, 395, 9780, 9789, 2850, 2850, *pressures)
+        return Job((run,), Prover(inside=12000, wall=375, base=20734), 13_188_000).run()
+
+    yield "propane", told(115), "ok 21710 10003 10004 10078 9863 10080 9867 20450 21421 9547"
+    yield "Pe forgotten", told(0), "ok 21710 10003 10004 10111 9895 10114 9901 20516 21495 9545"
 
 
 def group_figures():
@@ -61,7 +73,7 @@ def draw_figures():
 
 
 def ticket_figure():
-    asked = line("ticket", 10_000_000, 10_050_000, 10002, 9908, 40, 820, 500)
+    asked = line("ticket", 10_000_000, 10_050_000, 10002, 9908, 40, 820, 0, 500)
     yield "the ticket", asked, "ok 9913 49565 49317"
 
 
@@ -90,6 +102,7 @@ def book_figures():
 PARTS = (
     factor_figures,
     run_figure,
+    propane_figures,
     group_figures,
     draw_figures,
     ticket_figure,

@@ -125,7 +125,8 @@ def cps_points(tables):
 def cpl_points(tables):
     for row in rows("cpl_points"):
         places = int(row["places"])
-        asked = line("cpl", row["pressure"], row["compressibility"], places)
+        liquid = row["pressure"], row["compressibility"], row["equilibrium"]
+        asked = line("cpl", *liquid, places)
         tables.answered(row["place"], "CPL", row["printed_cpl"], asked, 0, places)
 
 
@@ -272,7 +273,7 @@ def prover_of(row):
 
 
 def run_of(row, of):
-    """A run with the figure's CTL and F; `of` gives its pulses, temperatures and pressures."""
+    """A run with the figure's CTL, F and Pe; `of` gives its pulses, temperatures and pressures."""
     return Run(
         int(of["pulses"]),
         units(of["prover_temperature"], 1),
@@ -283,22 +284,31 @@ def run_of(row, of):
         units(row["meter_ctl"], 4),
         int(row["prover_compressibility"]),
         int(row["meter_compressibility"]),
+        int(row["prover_equilibrium"]),
+        int(row["meter_equilibrium"]),
     )
 
 
 def provings(tables):
     for row in rows("provings"):
-        job = Job((run_of(row, row),), prover_of(row), units(row["k"], 3))
-        for at, name in enumerate(RUN_VALUES):
-            quantity = name.replace("_", " ")
-            tables.answered(row["place"], quantity, row[f"printed_{name}"], job.run(), at, 4)
+        run_values(tables, row["place"], row, run_of(row, row))
+
+
+def run_values(tables, place, row, run):
+    """A run's figures beside those that the source prints for the averages of its runs."""
+    job = Job((run,), prover_of(row), units(row["k"], 3))
+    for at, name in enumerate(RUN_VALUES):
+        tables.answered(place, name.replace("_", " "), row[f"printed_{name}"], job.run(), at, 4)
 
 
 def proving_runs(tables):
     figures = {row["place"]: row for row in rows("provings")}
     runs = {}
-    for row in rows("proving_runs"):
-        runs.setdefault(row["figure"], []).append(run_of(figures[row["figure"]], row))
+    for of in rows("proving_runs"):
+        row = figures[of["figure"]]
+        run = run_of(row, of)
+        runs.setdefault(of["figure"], []).append(run)
+        run_values(tables, f"{of['figure']} run {of['run']}", row, run)
     for figure, own in runs.items():
         row = figures[figure]
         job = Job(tuple(own), prover_of(row), units(row["k"], 3))
@@ -315,6 +325,7 @@ def tickets(tables):
             units(row["ctl"], 4),
             int(row["pressure"]),
             int(row["compressibility"]),
+            int(row["equilibrium"]),
             units(row["sediment"], 3),
         )
         for at, (name, places) in enumerate((("factor", 4), ("gross", 2), ("net", 2))):

@@ -70,7 +70,7 @@ EndakuroDraw NAMED(draw)(EndakuroProver prover, const uint8_t *records, size_t s
         uint64_t sum = 0;
         uint16_t p = fills[i].p;
         for (; i < count && fills[i].pass == pass + 1; i++) sum += drawn_by(&fills[i], gc);
-        uint64_t correction = cps_of(p, &prover, SIX_PLACES) * cpl_of(p, WATER, SIX_PLACES);
+        uint64_t correction = cps_of(p, &prover, SIX_PLACES) * cpl_of(p, WATER, WATER_PE, SIX_PLACES);
         volumes[pass] = rounded((wide)sum * 1000000000000, correction);
     }
     int at = first_group(volumes, passes, 3, 2);

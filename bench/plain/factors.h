@@ -3,7 +3,8 @@
 #include "rounding.h"
 #include <endakuro.h>
 
-enum { FOUR_PLACES = 10000, SIX_PLACES = 1000000, WATER = 320 };
+// Water's F, and its equilibrium pressure: it does not boil in a prover.
+enum { FOUR_PLACES = 10000, SIX_PLACES = 1000000, WATER = 320, WATER_PE = 0 };
 
 // The cubical coefficient in 10^-7 per °F: a certificate wins over the name, 0 where there is neither.
 static inline uint16_t coefficient_of(uint8_t metal, uint16_t certificate) {
@@ -30,6 +31,7 @@ static inline uint64_t cps_of(uint16_t p, const EndakuroProver *prover, uint32_t
     return rounded((wide)(stiffness + (uint64_t)p * prover->diameter) * one, stiffness);
 }
 
-static inline uint64_t cpl_of(uint16_t p, uint16_t f, uint32_t one) {
-    return rounded((wide)100000000 * one, 100000000 - (uint64_t)f * p);
+// Measured from the equilibrium pressure, which is at most p.
+static inline uint64_t cpl_of(uint16_t p, uint16_t f, uint16_t pe, uint32_t one) {
+    return rounded((wide)100000000 * one, 100000000 - (uint64_t)f * (uint64_t)(p - pe));
 }

@@ -7,7 +7,7 @@
 typedef struct {
     uint32_t pulses;
     int16_t prover_t, meter_t;
-    uint16_t prover_p, meter_p, prover_ctl, meter_ctl, prover_f, meter_f;
+    uint16_t prover_p, meter_p, prover_ctl, meter_ctl, prover_f, meter_f, prover_pe, meter_pe;
 } Run;
 
 static Run run_from(const uint8_t *s) {
@@ -19,13 +19,15 @@ static Run run_from(const uint8_t *s) {
                  word(s + 12),
                  word(s + 14),
                  word(s + 16),
-                 word(s + 18)};
+                 word(s + 18),
+                 word(s + 20),
+                 word(s + 22)};
 }
 
 static bool is_run(const Run *run) {
     return within(run->pulses, 1, 100000000) && within(run->prover_t, -200, 2000) &&
-           within(run->meter_t, -200, 2000) && within(run->prover_p, 0, 1500) &&
-           within(run->meter_p, 0, 1500) && within(run->prover_ctl, 5000, 15000) &&
+           within(run->meter_t, -200, 2000) && within(run->prover_p, run->prover_pe, 1500) &&
+           within(run->meter_p, run->meter_pe, 1500) && within(run->prover_ctl, 5000, 15000) &&
            within(run->meter_ctl, 5000, 15000) && within(run->prover_f, 0, 10000) &&
            within(run->meter_f, 0, 10000);
 }
@@ -33,9 +35,9 @@ static bool is_run(const Run *run) {
 static uint64_t run_factor(const EndakuroProver *prover, uint16_t gc, const Run *run, uint64_t indicated) {
     uint64_t cts = cts_of(run->prover_t, gc, FOUR_PLACES);
     uint64_t cps = cps_of(run->prover_p, prover, FOUR_PLACES);
-    uint64_t cpl = cpl_of(run->prover_p, run->prover_f, FOUR_PLACES);
+    uint64_t cpl = cpl_of(run->prover_p, run->prover_f, run->prover_pe, FOUR_PLACES);
     uint64_t prover_factor = rounded((wide)cts * cps * run->prover_ctl * cpl, 1000000000000);
-    uint64_t meter_cpl = cpl_of(run->meter_p, run->meter_f, FOUR_PLACES);
+    uint64_t meter_cpl = cpl_of(run->meter_p, run->meter_f, run->meter_pe, FOUR_PLACES);
     uint64_t meter_product = rounded((wide)run->meter_ctl * meter_cpl, 10000);
     uint64_t prover_volume = rounded((wide)prover->base * prover_factor, 10000);
     uint64_t meter_volume = rounded((wide)indicated * meter_product, 10000);
@@ -82,7 +84,7 @@ EndakuroReport NAMED(prove)(uint32_t request, EndakuroProver prover, uint32_t k,
         const uint8_t *record = records + RECORD * i;
         runs[i] = run_from(record);
         if (JUDGING && !is_run(&runs[i])) return no_report(5, (uint16_t)(i + 1));
-        if (JUDGING && !all_zero(record, 20, RECORD)) return no_report(2, (uint16_t)(i + 1));
+        if (JUDGING && !all_zero(record, 24, RECORD)) return no_report(2, (uint16_t)(i + 1));
     }
     uint64_t factors[20];
     for (int i = 0; i < count; i++) {

@@ -19,8 +19,9 @@ static inline void put_word(uint8_t *s, uint16_t x) {
     s[1] = (uint8_t)(x >> 8);
 }
 
+// Bits are gathered without a way out in between: so a compiler makes a few words of it, inlined or not.
 static inline bool all_zero(const uint8_t *s, size_t from, size_t to) {
-    for (size_t i = from; i < to; i++)
-        if (s[i]) return false;
-    return true;
+    uint8_t bits = 0;
+    for (size_t i = from; i < to; i++) bits |= s[i];
+    return bits == 0;
 }

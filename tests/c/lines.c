@@ -135,8 +135,8 @@ static void cps(void) {
 }
 
 static void cpl(void) {
-    uint16_t p = (uint16_t)number(), f = (uint16_t)number();
-    tell_factor(six_places() ? endakuro_cpl_six(p, f) : endakuro_cpl_four(p, f));
+    uint16_t p = (uint16_t)number(), f = (uint16_t)number(), pe = (uint16_t)number();
+    tell_factor(six_places() ? endakuro_cpl_six(p, f, pe) : endakuro_cpl_four(p, f, pe));
 }
 
 static void prove(void) {
@@ -210,6 +210,7 @@ static void ticket(void) {
     t.ctl = (uint16_t)number();
     t.pressure = (uint16_t)number();
     t.compressibility = (uint16_t)number();
+    t.equilibrium = (uint16_t)number();
     t.sediment = number();
     EndakuroVolumes r = endakuro_ticket(t);
     tell(r.number, r.record, VALUES(r.factor, r.gross, r.net));

@@ -20,8 +20,12 @@ def cps(pressure, inside, wall, modulus, places):
     return half_up((modulus * wall + pressure * inside) * 10**places, modulus * wall)
 
 
-def cpl(pressure, compressibility, places):
-    return half_up(10 ** (8 + places), 10**8 - compressibility * pressure)
+def cpl(pressure, compressibility, equilibrium, places):
+    return half_up(10 ** (8 + places), 10**8 - compressibility * (pressure - equilibrium))
+
+
+def water_cpl(pressure):
+    return cpl(pressure, 320, 0, 6)
 
 
 def twos(number):

@@ -3,11 +3,10 @@
 from dataclasses import replace
 
 from . import ends
-from .arithmetic import cpl, cps, half_up
+from .arithmetic import cps, half_up, water_cpl
 from .proving_days import valid_prover, within
 from .shapes import Draw, Fill
 
-WATER = 320
 LIMIT = 2
 
 
@@ -24,10 +23,10 @@ def valid_fill(rng):
 
 
 def volume_of(fills, prover):
-    divisor = cps(fills[0].pressure, prover.inside, prover.wall, prover.modulus, 6) * cpl(
-        fills[0].pressure, WATER, 6
-    )
-    return half_up(sum(fill.drawn(prover) for fill in fills) * 10**12, divisor)
+    pressure = fills[0].pressure
+    prover_cps = cps(pressure, prover.inside, prover.wall, prover.modulus, 6)
+    drawn = sum(fill.drawn(prover) for fill in fills)
+    return half_up(drawn * 10**12, prover_cps * water_cpl(pressure))
 
 
 def steered(fills, wanted, prover):

@@ -2,8 +2,8 @@
 
 from dataclasses import replace
 
-from .arithmetic import cpl, cps, cts, half_up, is_half, twos
-from .draw_days import WATER, valid_fill
+from .arithmetic import cps, cts, half_up, is_half, twos, water_cpl
+from .draw_days import valid_fill
 from .plain import everywhere, plain_draw
 from .proving_days import valid_prover
 from .shapes import Draw, Fill, Prover
@@ -65,7 +65,7 @@ def pass_half(rng):
     in that product and its odd part in the sum."""
     while True:
         pressure, modulus, wall = rng.randint(1, 1500), 30_000_000, rng.randint(100, 800)
-        water = cpl(pressure, WATER, 6)
+        water = water_cpl(pressure)
         step = 2 ** max(13 - twos(water), 1)
         wanted = 10**6 + step - 10**6 % step + step * rng.randint(0, 3)
         inside = half_up((wanted - 10**6) * modulus * wall, pressure * 10**6)

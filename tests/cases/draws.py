@@ -10,6 +10,7 @@ from .shapes import Draw, Fill, Prover
 
 def aimed(rng):
     yield from record_ends(rng)
+    yield from unnamed_bytes(rng)
     yield from setting_ends()
     yield from count_ends(rng)
     yield from group_edges(rng)
@@ -39,6 +40,18 @@ def record_ends(rng):
                         temperatures = prover_temperature, measure_temperature
                         fill = Fill(100_000_000, 10000, *temperatures, coefficient, ctdw)
                         yield Draw((fill,), Prover(4, certificate)).fill()
+
+
+def unnamed_bytes(rng):
+    """Each of bytes 20 to 31 alone: a fill has no equilibrium pressure there."""
+    for byte in range(12):
+        unnamed = bytearray(12)
+        unnamed[byte] = rng.randint(1, 255)
+        at = rng.randrange(4)
+        bad = plain_draw([1_155_000] * 4).with_fill(at, unnamed=bytes(unnamed))
+        yield bad.draw
+        yield bad.passes
+        yield bad.fill(at)
 
 
 def setting_ends():

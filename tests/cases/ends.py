@@ -36,6 +36,8 @@ RUN = {
     "meter_ctl": (CTL, U16),
     "prover_compressibility": (COMPRESSIBILITY, U16),
     "meter_compressibility": (COMPRESSIBILITY, U16),
+    "prover_equilibrium_pressure": (PRESSURE, U16),
+    "meter_equilibrium_pressure": (PRESSURE, U16),
 }
 
 FILL = {
@@ -55,6 +57,7 @@ TICKET = {
     "ctl": (CTL, U16),
     "pressure": (PRESSURE, U16),
     "compressibility": (COMPRESSIBILITY, U16),
+    "equilibrium_pressure": (PRESSURE, U16),
     "sediment": ((0, 100_000), U32),
 }
 

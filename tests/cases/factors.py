@@ -1,6 +1,6 @@
 """Cases of `cts`, `cps` and `cpl`."""
 
-from . import ends
+from . import ends, equilibria
 from .arithmetic import is_half
 from .shapes import line
 
@@ -8,10 +8,7 @@ from .shapes import line
 def aimed(rng):
     yield from cts_ends()
     yield from cps_ends()
-    for places in (4, 6):
-        for pressure in ends.around((ends.PRESSURE, ends.U16)):
-            for compressibility in ends.around((ends.COMPRESSIBILITY, ends.U16)):
-                yield line("cpl", pressure, compressibility, places)
+    yield from cpl_ends()
     yield from halves(rng)
 
 
@@ -36,6 +33,14 @@ def cps_ends():
             for wall in ends.WALL:
                 for modulus in ends.MODULUS:
                     yield line("cps", 1500, inside, wall, modulus, places)
+
+
+def cpl_ends():
+    for places in (4, 6):
+        for pressure in ends.around((ends.PRESSURE, ends.U16)):
+            for compressibility in ends.around((ends.COMPRESSIBILITY, ends.U16)):
+                for equilibrium in equilibria.around(pressure):
+                    yield line("cpl", pressure, compressibility, equilibrium, places)
 
 
 def halves(rng):
@@ -73,4 +78,5 @@ def by_chance(rng):
         )
     pressure = rng.randint(0, 1500) if rng.random() < 0.95 else rng.randint(0, 65535)
     compressibility = rng.randint(0, 10000) if rng.random() < 0.95 else rng.randint(0, 65535)
-    return line("cpl", pressure, compressibility, places)
+    equilibrium = equilibria.by_chance(pressure, rng)
+    return line("cpl", pressure, compressibility, equilibrium, places)

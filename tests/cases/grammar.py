@@ -21,7 +21,7 @@ def examples():
         line("cts", 700, 4, 250, 4),
         line("cts", -5, 0, 0, 6),
         line("cps", 50, 10020, 365, 28_000_000, 6),
-        line("cpl", 50, 320, 6),
+        line("cpl", 385, 2850, 115, 6),
         job.prove,
         job.accepted,
         job.run(),

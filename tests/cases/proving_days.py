@@ -2,7 +2,7 @@
 
 from dataclasses import replace
 
-from . import ends
+from . import ends, equilibria
 from .shapes import Job, Prover, Run
 
 
@@ -23,6 +23,15 @@ def valid_prover(rng):
 
 
 def valid_run(rng):
+    run = valid_conditions(rng)
+    return replace(
+        run,
+        prover_equilibrium_pressure=equilibria.allowed(run.prover_pressure, rng),
+        meter_equilibrium_pressure=equilibria.allowed(run.meter_pressure, rng),
+    )
+
+
+def valid_conditions(rng):
     if rng.random() < 0.3:
         return Run(
             1,
@@ -54,16 +63,29 @@ def within(value, ends_of):
     return min(max(value, low), high)
 
 
+def equilibrium_beside(equilibrium, pressure, rng):
+    """Nearly the same, where the pressure allows it; a liquid that does not boil stays one."""
+    return equilibrium and within(equilibrium + rng.randint(-3, 3), (0, pressure))
+
+
 def beside(run, rng):
     """The next run of the same day: nearly the same conditions."""
+    prover_pressure = within(run.prover_pressure + rng.randint(-4, 4), ends.PRESSURE)
+    meter_pressure = within(run.meter_pressure + rng.randint(-4, 4), ends.PRESSURE)
     return replace(
         run,
         prover_temperature=within(run.prover_temperature + rng.randint(-8, 8), ends.TEMPERATURE),
         meter_temperature=within(run.meter_temperature + rng.randint(-8, 8), ends.TEMPERATURE),
-        prover_pressure=within(run.prover_pressure + rng.randint(-4, 4), ends.PRESSURE),
-        meter_pressure=within(run.meter_pressure + rng.randint(-4, 4), ends.PRESSURE),
+        prover_pressure=prover_pressure,
+        meter_pressure=meter_pressure,
         prover_ctl=within(run.prover_ctl + rng.randint(-5, 5), ends.CTL),
         meter_ctl=within(run.meter_ctl + rng.randint(-5, 5), ends.CTL),
+        prover_equilibrium_pressure=equilibrium_beside(
+            run.prover_equilibrium_pressure, prover_pressure, rng
+        ),
+        meter_equilibrium_pressure=equilibrium_beside(
+            run.meter_equilibrium_pressure, meter_pressure, rng
+        ),
     )
 
 

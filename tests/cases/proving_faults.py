@@ -3,7 +3,7 @@
 from dataclasses import replace
 from itertools import combinations
 
-from . import ends
+from . import ends, equilibria
 from .shapes import Job, Run
 
 
@@ -48,9 +48,24 @@ def field(job, at, rng):
     return job.with_run(at, **{name: ends.outside(ends.RUN[name], rng)})
 
 
+def below_equilibrium(side):
+    """The pressure of that side is below its equilibrium pressure."""
+
+    def fault(job, at, rng):
+        pressure = getattr(job.runs[at], f"{side}_pressure")
+        equilibrium = equilibria.above(pressure, rng)
+        return job.with_run(at, **{f"{side}_equilibrium_pressure": equilibrium})
+
+    return fault
+
+
+prover_below_equilibrium = below_equilibrium("prover")
+meter_below_equilibrium = below_equilibrium("meter")
+
+
 def unnamed(job, at, rng):
-    octets = bytearray(12)
-    octets[rng.randrange(12)] = rng.randint(1, 255)
+    octets = bytearray(8)
+    octets[rng.randrange(8)] = rng.randint(1, 255)
     return job.with_run(at, unnamed=bytes(octets))
 
 
@@ -81,7 +96,14 @@ JOB_FAULTS = (
     limit,
     no_group,
 )
-RECORD_FAULTS = (field, unnamed, indicated, run_factor)
+RECORD_FAULTS = (
+    field,
+    prover_below_equilibrium,
+    meter_below_equilibrium,
+    unnamed,
+    indicated,
+    run_factor,
+)
 ALL = (*JOB_FAULTS, *RECORD_FAULTS)
 SINGLE_RUN_FAULTS = (not_whole, setting, k_factor, *RECORD_FAULTS)
 

@@ -2,7 +2,8 @@
 
 from dataclasses import replace
 
-from .arithmetic import cpl, cps, cts, is_half
+from . import equilibria
+from .arithmetic import is_half
 from .plain import fitted_job
 from .proving_days import valid_prover, valid_run
 from .shapes import Job, Prover, Run
@@ -24,11 +25,13 @@ def halves(rng):
 
 
 def prover_factor_half(rng):
+    """Where other factors are 1, and at any CPL where CTS and CPS are: in a stout pipe at 60 °F."""
+    stout = rng.random() < 0.5
     while True:
-        prover = valid_prover(rng)
-        pressure = rng.choice((0, rng.randint(1, 300)))
+        prover = Prover(inside=1000, wall=3000) if stout else valid_prover(rng)
+        pressure = rng.randint(1, 1500) if stout else rng.choice((0, rng.randint(1, 300)))
         compressibility = rng.choice((0, rng.randint(300, 3000)))
-        temperature = rng.choice((600, rng.randint(500, 900)))
+        temperature = 600 if stout else rng.choice((600, rng.randint(500, 900)))
         run = Run(
             200_000,
             temperature,
@@ -39,25 +42,22 @@ def prover_factor_half(rng):
             10000,
             compressibility,
             0,
+            equilibria.allowed(pressure, rng),
         )
-        product = (
-            cts(temperature, prover.coefficient, 4)
-            * cps(pressure, prover.inside, prover.wall, prover.modulus, 4)
-            * run.prover_ctl
-            * cpl(pressure, compressibility, 4)
-        )
-        if is_half(product, 10**12):
+        if is_half(run.prover_product(prover), 10**12):
             return run, prover
 
 
 def meter_product_half(rng):
     while True:
+        pressure = rng.randint(1, 1500)
         run = Run(
             meter_ctl=625 * rng.randint(8, 24),
-            meter_pressure=rng.randint(1, 1500),
+            meter_pressure=pressure,
             meter_compressibility=rng.randint(1, 10000),
+            meter_equilibrium_pressure=equilibria.allowed(pressure, rng),
         )
-        if is_half(run.meter_ctl * cpl(run.meter_pressure, run.meter_compressibility, 4), 10**4):
+        if is_half(run.meter_ctl * run.meter_cpl, 10**4):
             return run
 
 

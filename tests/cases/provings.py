@@ -2,14 +2,26 @@
 
 from dataclasses import replace
 
-from . import ends, proving_faults, proving_halves
+from . import ends, equilibria, proving_faults, proving_halves
 from .plain import fitted_job, plain_job
 from .proving_days import valid_job
 from .shapes import Job, Prover, Run
 
+ORDINARY = Run(
+    prover_pressure=40,
+    meter_pressure=40,
+    prover_compressibility=820,
+    meter_compressibility=820,
+)
+PROPANE_PROVER = Prover(inside=12000, wall=375)
+
 
 def aimed(rng):
     yield from record_ends(rng)
+    yield from equilibrium_ends(rng)
+    yield from equilibrium_sides()
+    yield from equilibrium_runs(rng)
+    yield from last_bytes(rng)
     yield from setting_ends(rng)
     yield from count_ends(rng)
     yield from indicated_ends()
@@ -30,14 +42,76 @@ def record_ends(rng):
             yield job.with_run(at, **{name: value}).run(at)
             if not low <= value <= high:
                 continue
-            ordinary = {"prover_pressure": 40, "meter_pressure": 40}
-            ordinary |= {"prover_compressibility": 820, "meter_compressibility": 820}
-            run = Run(**{**ordinary, name: value})
+            run = replace(ORDINARY, **{name: value})
             for k_factor in (50, 10_000_000, 1_000_000_000):
                 fitted = fitted_job(run, Prover(), k_factor)
                 yield fitted.prove
                 yield fitted.run()
                 yield fitted.accepted
+
+
+def equilibrium_ends(rng):
+    """Each side's equilibrium pressure beside its own pressure, the other side's being 0."""
+    for side in ("prover", "meter"):
+        for pressure in ends.around((ends.PRESSURE, ends.U16)):
+            for equilibrium in equilibria.around(pressure):
+                liquid = {f"{side}_pressure": pressure}
+                liquid |= {f"{side}_equilibrium_pressure": equilibrium}
+                at = rng.randrange(6)
+                job = plain_job([10000] * 6).with_run(at, **liquid)
+                yield job.prove
+                yield job.run(at)
+                fitted = fitted_job(replace(ORDINARY, **liquid), Prover(), 10_000_000)
+                yield fitted.prove
+                yield fitted.run()
+                yield fitted.accepted
+
+
+def equilibrium_sides():
+    """Both sides' equilibrium pressures, each taken at its own side: alike, unlike, exchanged."""
+    for on_prover in (0, 115, 384, 385, 386, 390, 395, 396):
+        for on_meter in (0, 115, 384, 385, 386, 390, 395, 396):
+            fitted = fitted_job(propane(on_prover, on_meter), PROPANE_PROVER, 13_188_000)
+            yield fitted.prove
+            yield fitted.run()
+
+
+def equilibrium_runs(rng):
+    """The runs of a job boil at unlike pressures: they agree when each is taken with its own."""
+    for count in (5, 6, 20):
+        for _ in range(4):
+            runs = tuple(
+                propane(rng.randint(0, 385), rng.randint(0, 395)).with_factor(
+                    10000, PROPANE_PROVER, 100_000_000
+                )
+                for _ in range(count)
+            )
+            job = Job(runs, PROPANE_PROVER, 100_000_000)
+            yield job.prove
+            yield job.accepted
+
+
+def propane(on_prover, on_meter):
+    return Run(28631, 770, 765, 385, 395, 9780, 9789, 2850, 2850, on_prover, on_meter)
+
+
+def last_bytes(rng):
+    """Each of bytes 20 to 31 alone: the equilibrium pressures, then those that must be 0."""
+    for byte in range(12):
+        for value in (1, 5, 128, 255):
+            last = bytearray(12)
+            last[byte] = value
+            at = rng.randrange(5)
+            job = plain_job([10000] * 5).with_run(
+                at,
+                prover_pressure=1500,
+                meter_pressure=1500,
+                prover_equilibrium_pressure=int.from_bytes(last[:2], "little"),
+                meter_equilibrium_pressure=int.from_bytes(last[2:4], "little"),
+                unnamed=bytes(last[4:]),
+            )
+            yield job.prove
+            yield job.run(at)
 
 
 def setting_ends(rng):

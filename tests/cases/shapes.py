@@ -48,12 +48,14 @@ class Run:
     meter_ctl: int = 10000
     prover_compressibility: int = 0
     meter_compressibility: int = 0
-    unnamed: bytes = bytes(12)
+    prover_equilibrium_pressure: int = 0
+    meter_equilibrium_pressure: int = 0
+    unnamed: bytes = bytes(8)
 
     @property
     def packed(self):
         return struct.pack(
-            "<IhhHHHHHH12s",
+            "<IhhHHHHHHHH8s",
             self.pulses,
             self.prover_temperature,
             self.meter_temperature,
@@ -63,22 +65,36 @@ class Run:
             self.meter_ctl,
             self.prover_compressibility,
             self.meter_compressibility,
+            self.prover_equilibrium_pressure,
+            self.meter_equilibrium_pressure,
             self.unnamed,
         )
 
-    def prover_factor(self, prover):
-        factors = (
+    @property
+    def prover_cpl(self):
+        equilibrium = self.prover_equilibrium_pressure
+        return cpl(self.prover_pressure, self.prover_compressibility, equilibrium, 4)
+
+    @property
+    def meter_cpl(self):
+        equilibrium = self.meter_equilibrium_pressure
+        return cpl(self.meter_pressure, self.meter_compressibility, equilibrium, 4)
+
+    def prover_product(self, prover):
+        """The exact product of the prover's four factors."""
+        return (
             cts(self.prover_temperature, prover.coefficient, 4)
             * cps(self.prover_pressure, prover.inside, prover.wall, prover.modulus, 4)
             * self.prover_ctl
-            * cpl(self.prover_pressure, self.prover_compressibility, 4)
+            * self.prover_cpl
         )
-        return half_up(factors, 10**12)
+
+    def prover_factor(self, prover):
+        return half_up(self.prover_product(prover), 10**12)
 
     @property
     def meter_product(self):
-        meter_cpl = cpl(self.meter_pressure, self.meter_compressibility, 4)
-        return half_up(self.meter_ctl * meter_cpl, 10**4)
+        return half_up(self.meter_ctl * self.meter_cpl, 10**4)
 
     def with_factor(self, factor, prover, k_factor):
         """The same run with the pulses that bring its factor nearest to `factor`."""
@@ -201,7 +217,12 @@ class Ticket:
     ctl: int = 9908
     pressure: int = 40
     compressibility: int = 820
+    equilibrium_pressure: int = 0
     sediment: int = 500
+
+    @property
+    def cpl(self):
+        return cpl(self.pressure, self.compressibility, self.equilibrium_pressure, 4)
 
     @property
     def line(self):
@@ -213,6 +234,7 @@ class Ticket:
             self.ctl,
             self.pressure,
             self.compressibility,
+            self.equilibrium_pressure,
             self.sediment,
         )
 

@@ -9,9 +9,10 @@ from pathlib import Path
 HERE = Path(__file__).resolve().parent
 sys.path[:0] = [str(HERE), str(HERE.parent), str(HERE.parents[1])]
 NAMES = (
-    "examples", "badfiles", "faultlines", "spellings", "entryfiles", "damaged", "ranges", "reports", "spreads",
-    "readback", "outputs", "losses", "worksheets", "workbooks", "halves", "plots", "prints", "machines", "verifying",
-    "pagefolders", "reworks", "obstacles", "sessions", "keeping", "newfiles", "building", "helping", "readme", "sums",
+    "examples", "badfiles", "faultlines", "spellings", "entryfiles", "damaged", "ranges", "equilibrium", "reports",
+    "spreads", "readback", "outputs", "losses", "worksheets", "workbooks", "halves", "plots", "prints", "machines",
+    "verifying", "pagefolders", "reworks", "obstacles", "sessions", "keeping", "newfiles", "building", "helping",
+    "readme", "sums",
 )  # fmt: skip
 
 

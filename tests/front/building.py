@@ -104,7 +104,7 @@ def other_commands(tally, fresh):
     launcher, job = fresh.command[0], fresh.command[-1]
     for words, given, expected in (
         (["rework", job, "--csv", "-"], "", "accepted"),
-        (["lines"], "cpl 0 0 4\n", "ok 10000\n"),
+        (["lines"], "cpl 0 0 0 4\n", "ok 10000\n"),
     ):
         shutil.rmtree(fresh.root / "target")
         pipes = {"input": given, "capture_output": True, "text": True}

@@ -17,8 +17,9 @@ SHOWN = {
         "07 00 00 00 12 27 02 06 10 27 11 27 12 27 13 27 15 27 00",
     ),
     "figure-5.toml": ("0.9984 17.6258 |", "Meter factor              0.9963"),
-    "figure-6.toml": ("Meter factor              0.9544",),
-    "figure-6-printed-cpl.toml": (
+    "figure-6.toml": (
+        "385 115 0.9780",
+        "395 115 0.9789",
         "1.0003 1.0004 1.0078 0.9863 2.0450 |",
         "1.0080 0.9867",
         "Meter factor              0.9547",
@@ -27,6 +28,7 @@ SHOWN = {
     "water-draw.toml": ("21,179.67", "21,182.13", "21,182.15", "21,181.32 in³", "2.1832 bbl"),
     "ticket.toml": ("500.00 bbl", "0.9913", "495.65 bbl", "493.17 bbl"),
     "ticket-figure-7.toml": ("0.9898", "52,587.08 bbl", "52,508.20 bbl"),
+    "ticket-propane.toml": ("115 psi", "1.0080", "0.9420", "9,420.00 bbl"),
     "live.toml": ("73.3 °F, from 73.25 °F", "40 psi, from 40 psi"),
     "report-7.record": ("Meter factor              1.0002", "2 to 6 of 6", "Run factor, run 6         1.0005"),
     "book.txt": ("request 101 of shipper 0 is taken", "shipper 0: 102 103", "last served: shipper 0"),
@@ -36,6 +38,7 @@ COMMANDS = {
     "water-draw.toml": "draw",
     "ticket.toml": "ticket",
     "ticket-figure-7.toml": "ticket",
+    "ticket-propane.toml": "ticket",
     "live.toml": "live",
     "report-7.record": "read",
     "book.txt": "book",

@@ -17,6 +17,9 @@ from front.units import shown
 
 
 def written(key, count, known):
+    """A line of a job file; none where leaving it out says the same."""
+    if count == known[key].default:
+        return ""
     return f"{key} = {shown(count, known[key].unit.places, group=False)}\n"
 
 

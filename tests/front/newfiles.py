@@ -39,7 +39,7 @@ def line_program(tally):
     tally.same((status, out, err), (0, expected.stdout, ""), "lines")
     tally.check(out.count("ok") > 1, "lines: no answers")
     process = subprocess.Popen([LAUNCHER, "lines"], stdin=subprocess.PIPE, stdout=subprocess.PIPE, text=True, bufsize=1)
-    process.stdin.write("cpl 0 0 4\n")
+    process.stdin.write("cpl 0 0 0 4\n")
     tally.same(process.stdout.readline(), "ok 10000\n", "lines: an answer before the input ends")
     process.stdin.close()
     tally.same(process.wait(20), 0, "lines: status")

@@ -48,6 +48,9 @@ def example(name):
 def changed(name, table, record, key, count, places):
     values = example(name)
     holder = values[table][record - 1] if record else values[table] if table else values
+    if key in fields.AT_MOST:
+        # An equilibrium pressure may reach its own end only where the pressure does.
+        holder[fields.AT_MOST[key]] = "1500"
     holder[key] = shown(count, places, group=False)
     return text_of(values)
 

@@ -16,8 +16,9 @@ JOBS = 150
 # The columns of a run's rows, in the order in which they are printed.
 RUN_COLUMNS = (
     (
-        "pulses", "prover_temperature", "prover_pressure", "prover_ctl", "prover_compressibility",
-        "meter_temperature", "meter_pressure", "meter_ctl", "meter_compressibility",
+        "pulses",
+        "prover_temperature", "prover_pressure", "prover_equilibrium_pressure", "prover_ctl", "prover_compressibility",
+        "meter_temperature", "meter_pressure", "meter_equilibrium_pressure", "meter_ctl", "meter_compressibility",
     ),
     (
         "cts", "cps", "prover_cpl", "prover_factor", "prover_volume",
@@ -54,6 +55,11 @@ def value(lines, name):
     return next(line.strip().removeprefix(name).strip() for line in lines if line.strip().startswith(name))
 
 
+def has_column(job, key):
+    """An equilibrium pressure has a column where a run has one; all else always has."""
+    return "equilibrium" not in key or any(run.counts[key] for run in job.runs)
+
+
 def told(counts, places, keys):
     return [shown(counts[key], places[key]) for key in keys]
 
@@ -68,7 +74,8 @@ def proving(tally, name, job, program):
     places = {key: field.unit.places for key, field in fields.RUN.items()} | dict.fromkeys(figures.OF_A_RUN, 4)
     tables = tables_after(lines, "B. RUNS")
     if tally.same(len(tables), 2, f"{name}: tables"):
-        for table, keys in zip(tables, RUN_COLUMNS):
+        for table, columns in zip(tables, RUN_COLUMNS):
+            keys = [key for key in columns if has_column(job, key)]
             tally.same(len(table["rows"]), len(job.runs), f"{name}: rows")
             for number, (run, own, cells) in enumerate(zip(job.runs, worked.runs, table["rows"]), 1):
                 marked = [str(number), *["*"] * (number in worked.accepted)]
@@ -133,9 +140,11 @@ def widest():
     """Jobs at the ends of the ranges: their figures are the longest that there are."""
     yield from map(jobtexts.draw_text, jobtexts.widest_draws())
     prover = 'metal = "mild carbon"\ninside_diameter = 60.000\nwall_thickness = 0.100\nmodulus = 10000000\n'
-    for base, ctl in (("10000.0000", "1.5000"), ("9500.0000", "0.5000")):
+    most, least = ("10000.0000", "1.5000"), ("9500.0000", "0.5000")
+    for (base, ctl), equilibrium in ((most, 0), (least, 0), (least, 1000)):
         shared = "".join(
             f"{side}_temperature = -20.0\n{side}_pressure = 1500\n{side}_ctl = {ctl}\n{side}_compressibility = 0.0001\n"
+            f"{side}_equilibrium_pressure = {equilibrium}\n"
             for side in ("prover", "meter")
         )
         runs = "[[run]]\npulses = 100000000\n" * 20

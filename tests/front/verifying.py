@@ -12,9 +12,9 @@ from harness import ROOT, Tally, called
 
 EXAMPLES = ROOT / "examples"
 JOBS = {
-    "prove": ("second-five.toml", "refusals/prove-09-runs-drift.toml"),
+    "prove": ("second-five.toml", "figure-6.toml", "refusals/prove-09-runs-drift.toml"),
     "draw": ("water-draw.toml", "refusals/draw-09-passes-drift.toml"),
-    "ticket": ("ticket.toml",),
+    "ticket": ("ticket.toml", "ticket-propane.toml"),
 }
 OTHER = EXAMPLES / "figure-5.toml"
 DAMAGED = 12

@@ -14,7 +14,9 @@ from front import worksheet
 from front.program import Program
 from front.sheet import FIRST_COLUMN
 
-DAYS, HALVES, DRAWS, TICKETS = 150, 110, 20, 24
+DAYS, HALVES, DRAWS, TICKETS = 150, 110, 20, 48
+# So many of them at least are of liquids that boil.
+BOILING = {"prover_equilibrium_pressure": 60, "meter_equilibrium_pressure": 60, "equilibrium_pressure": 8}
 
 
 def proving(worked, program):
@@ -75,6 +77,9 @@ def test():
             tally.same(sheet.found(rows, key, at), str(told[key, at]), f"{name}: {key}, column {at + 1}")
     counts = {kind: sum(name.startswith(kind) for name, *_ in sheets) for kind in MAKERS}
     tally.check(counts["prove"] >= 200, f"only {counts['prove']} proving jobs have a worksheet")
+    for key, least in BOILING.items():
+        having = sum(key in sheet.places for _, _, sheet, _ in sheets)
+        tally.check(having >= least, f"only {having} worksheets have a {key}")
     told = ", ".join(f"{count} {kind}" for kind, count in counts.items())
     tally.name = f"worksheets ({told} in LibreOffice)"
     return tally

@@ -13,8 +13,8 @@ use Rattle.api.specs.declared.tickets.EndakuroTicket.{EndakuroTicket}
 abbrev pub pipeBy : ℕ → ℕ → ℕ → Pipe
 pipeBy diameter wall modulus = record { diameter = diameter; wall = wall; modulus = modulus }
 
-abbrev pub liquidBy : ℕ → ℕ → Liquid
-liquidBy pressure compressibility = record { pressure = pressure; compressibility = compressibility }
+abbrev pub liquidBy : ℕ → ℕ → ℕ → Liquid
+liquidBy pressure compressibility equilibrium = record { pressure = pressure; compressibility = compressibility; equilibrium = equilibrium }
 
 -- the prover's settings, the metal by its code and its certificate
 abbrev pub proverBy : EndakuroProver → Prover
@@ -36,6 +36,6 @@ ticketBy t =
       closing = t .closing;
       mf = t .mf;
       ctl = t .ctl;
-      liquid = liquidBy (t .pressure) (t .compressibility);
+      liquid = liquidBy (t .pressure) (t .compressibility) (t .equilibrium);
       sediment = t .sediment;
     }

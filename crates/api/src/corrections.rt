@@ -57,12 +57,13 @@ fn work_out_cps(p: u16, diameter: u32, wall: u32, modulus: u32, places: Places) 
     flatten(factors::cps(p, pipe, places))
 }
 
-fn work_out_cpl(p: u16, f: u16, places: Places) -> EndakuroFactor
-    ensures { λ r. ⌜ r ≡ flatFactor (cplOf (digits places) (liquidBy p f)) ⌝ }
+fn work_out_cpl(p: u16, f: u16, pe: u16, places: Places) -> EndakuroFactor
+    ensures { λ r. ⌜ r ≡ flatFactor (cplOf (digits places) (liquidBy p f pe)) ⌝ }
 {
     let liquid = Liquid {
         pressure: p,
         compressibility: f,
+        equilibrium: pe,
     };
     flatten(factors::cpl(liquid, places))
 }
@@ -102,17 +103,17 @@ pub extern "C" fn endakuro_cps_six(p: u16, diameter: u32, wall: u32, modulus: u3
     work_out_cps(p, diameter, wall, modulus, Places::Six)
 }
 
-// P in psi gage and F in 10^-8 per psi.
+// P and Pe in psi gage, F in 10^-8 per psi.
 #[no_mangle]
-pub extern "C" fn endakuro_cpl_four(p: u16, f: u16) -> EndakuroFactor
-    ensures { λ r. ⌜ r ≡ flatFactor (cplOf 4 (liquidBy p f)) ⌝ }
+pub extern "C" fn endakuro_cpl_four(p: u16, f: u16, pe: u16) -> EndakuroFactor
+    ensures { λ r. ⌜ r ≡ flatFactor (cplOf 4 (liquidBy p f pe)) ⌝ }
 {
-    work_out_cpl(p, f, Places::Four)
+    work_out_cpl(p, f, pe, Places::Four)
 }
 
 #[no_mangle]
-pub extern "C" fn endakuro_cpl_six(p: u16, f: u16) -> EndakuroFactor
-    ensures { λ r. ⌜ r ≡ flatFactor (cplOf 6 (liquidBy p f)) ⌝ }
+pub extern "C" fn endakuro_cpl_six(p: u16, f: u16, pe: u16) -> EndakuroFactor
+    ensures { λ r. ⌜ r ≡ flatFactor (cplOf 6 (liquidBy p f pe)) ⌝ }
 {
-    work_out_cpl(p, f, Places::Six)
+    work_out_cpl(p, f, pe, Places::Six)
 }

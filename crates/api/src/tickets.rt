@@ -7,7 +7,7 @@ use factors::Liquid;
 use ticket::Measured;
 use ticket::Ticket;
 
-// Readings in 0.01 barrel, the meter factor and CTL in 0.0001, P in psi gage, F in 10^-8 per psi, S in
+// Readings in 0.01 barrel, the meter factor and CTL in 0.0001, P and Pe in psi gage, F in 10^-8 per psi, S in
 // 0.001 %.
 #[repr(C)]
 pub struct EndakuroTicket {
@@ -17,6 +17,7 @@ pub struct EndakuroTicket {
     pub ctl: u16,
     pub pressure: u16,
     pub compressibility: u16,
+    pub equilibrium: u16,
     pub sediment: u32,
 }
 
@@ -61,6 +62,7 @@ pub extern "C" fn endakuro_ticket(given: EndakuroTicket) -> EndakuroVolumes
     let liquid = Liquid {
         pressure: given.pressure,
         compressibility: given.compressibility,
+        equilibrium: given.equilibrium,
     };
     let ticket = Ticket {
         opening: given.opening,

@@ -10,7 +10,7 @@ use lib.Signed.{mag}
 use mir.Syntax.{w16}
 use mir.Val.{toZ, ofZ}
 use Rattle.ranges.specs.Table.{temperatureOk, coefficientOk, pressureOk, compressibilityOk}
-use Rattle.ranges.proofs.Laws.{within-high, both-true}
+use Rattle.ranges.proofs.Laws.{within-high}
 use Rattle.ranges.proofs.Counted.{passed-on}
 use Rattle.exact.specs.Rounding.{rounded}
 use Rattle.exact.specs.Quotient.{quotientOf, valueOrZero}
@@ -28,6 +28,7 @@ use Rattle.factors.specs.declared.Pipe.{Pipe}
 use Rattle.factors.specs.declared.Factor.{Factor}
 use Rattle.factors.specs.declared.Places.the-variants.{Six}
 use Rattle.factors.proofs.Steel.{warm, parts, Loads, loads}
+use Rattle.factors.proofs.Squeezed.{all-fit}
 use Rattle.factors.proofs.Values.{cts-small, cts-value, cps-small, cpl-small}
 use Rattle.draw.specs.Fill.{fillOk}
 use Rattle.draw.specs.Drawn.{adjusted, measureCts, proverCts, ccts, drawn}
@@ -87,8 +88,8 @@ module _ (metal : Metal) (fill : FillRecord) (m : metalOk metal ≡ true) (ok : 
 -- ---- the corrected volume
 
 pub water-ok : (pressure : ℕ) → pressureOk pressure ≡ true → liquidOk (waterAt pressure) ≡ true
-unfolding liquidOk waterAt compressibilityOk
-water-ok pressure ok = both-true ok refl
+unfolding waterAt compressibilityOk
+water-ok pressure ok = all-fit (waterAt pressure) ok (omega arith) refl
 
 module _ (pipe : Pipe) (pressure : ℕ) (pipe-ok : pipeOk pipe ≡ true) (ok : pressureOk pressure ≡ true) where
   product-least : 1000000000000 ≤ cpsAt 6 pipe pressure * cplAt 6 (waterAt pressure)

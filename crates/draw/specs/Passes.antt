@@ -46,8 +46,9 @@ passPressure s pass = pressureAt s (firstPlace (isOf s pass) (recordsIn 32 s) 0)
 abbrev pub waterCompressibility : ℕ
 waterCompressibility = 320
 
+-- 'Water draw uses Pe 0'
 unfoldable pub waterAt : ℕ → Liquid
-waterAt pressure = record { pressure = pressure; compressibility = waterCompressibility }
+waterAt pressure = record { pressure = pressure; compressibility = waterCompressibility; equilibrium = 0 }
 
 -- 'divided by the unrounded product CPS × CPL, then rounded': each factor counts 10^-6, so that the product counts 10^-12
 unfoldable pub correctedVolume : Pipe → ℕ → ℕ → ℕ

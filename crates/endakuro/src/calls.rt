@@ -41,7 +41,7 @@ fn answer_cps(line: &[u8], out: &mut [u8]) -> usize {
 
 fn answer_cpl(line: &[u8], out: &mut [u8]) -> usize {
     let liquid = operands::liquid_at(line, 1);
-    say_factor(factors::cpl(liquid, operands::places_at(line, 3)), out)
+    say_factor(factors::cpl(liquid, operands::places_at(line, 4)), out)
 }
 
 // FACTOR FIRST RUNS F1 F2 F3 F4 F5
@@ -184,7 +184,7 @@ fn ticket_at(line: &[u8]) -> Ticket {
         mf: operands::u16_at(line, 3),
         ctl: operands::u16_at(line, 4),
         liquid,
-        sediment: operands::u32_at(line, 7),
+        sediment: operands::u32_at(line, 8),
     }
 }
 

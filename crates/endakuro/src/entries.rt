@@ -7,7 +7,7 @@ pub(crate) fn find_entry(line: &[u8]) -> usize {
     let names =
         b"request withdraw take load empty book prove write runs run read draw fill passes cts cps cpl ticket live spread";
     let forms =
-        b"nbw nbw n nbbbbbwwwwwwwwwwwwwwwwwwwwwwwwwwwwwwwwwwwwwwwwwwwwwwwwwwwwwwwwwwwwwwww n n nwbhwwwwwhxx nwbbhhhhhx nbhwwwwwhx nbhwwwwwx nx nbhwwwwx nbhx nbhwwwwx nsbhp nhwwwp nhhp nwwhhhhw nff ndddddddddddddddddddd";
+        b"nbw nbw n nbbbbbwwwwwwwwwwwwwwwwwwwwwwwwwwwwwwwwwwwwwwwwwwwwwwwwwwwwwwwwwwwwwwww n n nwbhwwwwwhxx nwbbhhhhhx nbhwwwwwhx nbhwwwwwx nx nbhwwwwx nbhx nbhwwwwx nsbhp nhwwwp nhhhp nwwhhhhhw nff ndddddddddddddddddddd";
     let entry = find_name(words::word(line, 0), names);
     if entry < 20 {
         let form = words::word(forms, entry);

@@ -69,6 +69,7 @@ pub(crate) fn liquid_at(line: &[u8], n: usize) -> Liquid
     Liquid {
         pressure: u16_at(line, n),
         compressibility: u16_at(line, n + 1),
+        equilibrium: u16_at(line, n + 2),
     }
 }
 

@@ -1,4 +1,4 @@
--- What each entry answers, by the paper: 3 for a metal or pipe figure out of range, then 5 for a temperature, pressure or F.
+-- What each entry answers, by the paper: 3 for a metal or pipe figure out of range, then 5 for a temperature, a pressure (below Pe too) or F.
 use mathlib.Core.Bool.{cond}
 use mathlib.Core.List.{List}
 use Prim.Native.Nat.{ℕ, _^_}

@@ -13,9 +13,9 @@ cts t gc = natAbs (pos 100000000 +ℤ (t -ℤ pos 600) *ℤ pos gc) over 1000000
 unfoldable pub cps : ℕ → ℕ → ℕ → ℕ → Fraction
 cps p id e wt = e * wt + p * id over e * wt
 
--- CPL = 1 / (1 - F × P), with F in 10^-8 per psi and P gage
-unfoldable pub cpl : ℕ → ℕ → Fraction
-cpl f p = 100000000 over 100000000 - f * p
+-- CPL = 1 / (1 - F × (P - Pe)), with F in 10^-8 per psi, P and the equilibrium pressure Pe gage
+unfoldable pub cpl : ℕ → ℕ → ℕ → Fraction
+cpl f p pe = 100000000 over 100000000 - f * (p - pe)
 
 -- 1 for no factor
 abbrev pub productOf : List ℕ → ℕ

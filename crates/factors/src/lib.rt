@@ -37,11 +37,12 @@ pub struct Prover {
     pub base: u32,
 }
 
-// A liquid at the prover, at the meter or on a ticket: its pressure P in psi gage and its
-// compressibility F in 10^-8 per psi.
+// A liquid at the prover, at the meter or on a ticket: its pressure P in psi gage, its compressibility F
+// in 10^-8 per psi and its equilibrium pressure Pe in psi gage, 0 where it does not boil at line conditions.
 pub struct Liquid {
     pub pressure: u16,
     pub compressibility: u16,
+    pub equilibrium: u16,
 }
 
 // Decimal places of a factor: four for proving and tickets, six for water draw.
@@ -119,12 +120,13 @@ pub fn is_prover(prover: Prover) -> bool
     is_metal(metal) & (is_pipe(pipe) & ranges::is_volume(prover.base as u64))
 }
 
-// The liquid's pressure and compressibility are in range.
+// The liquid's pressure is in range and not below its equilibrium pressure, and its compressibility is in range.
 pub fn is_liquid(liquid: Liquid) -> bool
     ensures { λ r. ⌜ r ≡ liquidOk liquid ⌝ }
 {
     ranges::is_pressure(liquid.pressure as u64)
-        & ranges::is_compressibility(liquid.compressibility as u64)
+        & ((liquid.equilibrium <= liquid.pressure)
+            & ranges::is_compressibility(liquid.compressibility as u64))
 }
 
 // One, at so many places: 10^places.
@@ -185,7 +187,8 @@ pub fn cpl(liquid: Liquid, places: Places) -> Factor
     ensures { λ r. ⌜ told r ≡ cplOf (digits places) liquid ⌝ }
 {
     if is_liquid(liquid) {
-        let squeezed = liquid.compressibility as u64 * liquid.pressure as u64;
+        let above = liquid.pressure - liquid.equilibrium;
+        let squeezed = liquid.compressibility as u64 * above as u64;
         return round(100000000, 100000000 - squeezed, places);
     }
     Factor::Refused(Refusal::RecordField(0))

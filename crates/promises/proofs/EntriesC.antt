@@ -67,8 +67,8 @@ entries-c =
       cts-six-entry = λ κ a r x p. flat-ends refl 0 factor-back p (cts-ends 6 (metalBy (second a) (third a)) (first a));
       cps-four-entry = λ κ a r x p. flat-ends refl 0 factor-back p (cps-ends 4 (pipeBy (second a) (third a) (fourth a)) (first a));
       cps-six-entry = λ κ a r x p. flat-ends refl 0 factor-back p (cps-ends 6 (pipeBy (second a) (third a) (fourth a)) (first a));
-      cpl-four-entry = λ κ a r x p. flat-ends refl 0 factor-back p (cpl-ends 4 (liquidBy (first a) (second a)));
-      cpl-six-entry = λ κ a r x p. flat-ends refl 0 factor-back p (cpl-ends 6 (liquidBy (first a) (second a)));
+      cpl-four-entry = λ κ a r x p. flat-ends refl 0 factor-back p (cpl-ends 4 (liquidBy (first a) (second a) (third a)));
+      cpl-six-entry = λ κ a r x p. flat-ends refl 0 factor-back p (cpl-ends 6 (liquidBy (first a) (second a) (third a)));
       prove-entry = λ κ a r x p. flat-ends refl noReport report-back (p .0) (job-ends (first a) (proverBy (second a)) (third a) (fourth a) (fifth a .now) (length (sixth a .now)));
       prove-leaves = λ κ a r x p.
           flat-leaves (flat-ends refl noReport report-back (p .0) (job-ends (first a) (proverBy (second a)) (third a) (fourth a) (fifth a .now) (length (sixth a .now))))

@@ -93,9 +93,9 @@ cps-once : (d : ℕ) (pipe : Pipe) (p : ℕ) → pipeOk pipe ≡ true → pressu
 unfolding cpsAt cps
 cps-once d pipe p ok pressure = to d _ (pipe .modulus * pipe .wall) (omega (arith, loads {pipe = pipe} {p = p} ok pressure .least))
 
-cpl-once : (d : ℕ) (liquid : Liquid) → liquidOk liquid ≡ true → RoundedTo d (cpl (liquid .compressibility) (liquid .pressure)) (cplAt d liquid)
+cpl-once : (d : ℕ) (liquid : Liquid) → liquidOk liquid ≡ true → RoundedTo d (cpl (liquid .compressibility) (liquid .pressure) (liquid .equilibrium)) (cplAt d liquid)
 unfolding cplAt cplFrom cpl
-cpl-once d liquid ok = to d 100000000 (100000000 - liquid .compressibility * liquid .pressure) (omega (arith, squeezed-little liquid ok))
+cpl-once d liquid ok = to d 100000000 (100000000 - liquid .compressibility * (liquid .pressure - liquid .equilibrium)) (omega (arith, squeezed-little liquid ok))
 
 combined-once : (d : ℕ) (fs : List ℕ) → RoundedTo d (combined d fs) (combinedAt d fs)
 unfolding combinedAt combined
@@ -113,7 +113,7 @@ cps-rounded d pipe p is =
     moved (judged-done f (cpsAt d pipe p) is)
     (cps-once d pipe p (demand-was (pipeOk pipe) 3 (orElse-fine-first (demand (pipeOk pipe) 3) _ clear)) (demand-was (pressureOk p) 5 (orElse-fine-next (demand (pipeOk pipe) 3) _ clear)))
 
-pub cpl-rounded : (d : ℕ) (liquid : Liquid) {q : ℕ} → cplOf d liquid ≡ done q → RoundedTo d (cpl (liquid .compressibility) (liquid .pressure)) q
+pub cpl-rounded : (d : ℕ) (liquid : Liquid) {q : ℕ} → cplOf d liquid ≡ done q → RoundedTo d (cpl (liquid .compressibility) (liquid .pressure) (liquid .equilibrium)) q
 unfolding cplOf cpl
 cpl-rounded d liquid is =
     let f = demand (liquidOk liquid) 5 in

@@ -9,6 +9,7 @@ pub mod Demand2
 pub mod ExactCauses
 pub mod Entries
 pub mod Signed
+pub mod ZeroGage
 pub mod Formulas
 pub mod EntryFormulas
 pub mod Jobs

@@ -1,5 +1,5 @@
 -- A number that is small beside the one it is added to, or not more than the one it is taken from, leaves it above zero.
-use mathlib.Core.Path.{_≡_, refl, sym, ap, _∙_}
+use mathlib.Core.Path.{_≡_, refl, sym, ap, _∙_, subst}
 use mathlib.Core.Bool.{true, and-true}
 use mathlib.Core.List.{List}
 use mathlib.Core.Logic.{by-cases}
@@ -9,13 +9,13 @@ use native.Mathlib.Decide.{decLt}
 use native.Mathlib.Omega.{arith}
 use borrow.Author.Tests.{leb-true, lt-ltb, le-ltb}
 use lib.Dec.{leb}
-use lib.IntN.{ℤ, pos, negsuc, negℤ, natAbs, _+ℤ_, _-ℤ_, _*ℤ_}
-use Rattle.ranges.specs.Table.{temperatureOk, coefficientOk, certifiedOk, scaleOk}
-use Rattle.ranges.proofs.Laws.{both-first, both-second, within-high}
+use lib.IntN.{ℤ, pos, negsuc, negℤ, natAbs, subℕ, _+ℤ_, _-ℤ_, _*ℤ_}
+use Rattle.ranges.specs.Table.{temperatureOk, pressureOk, coefficientOk, certifiedOk, scaleOk}
+use Rattle.ranges.proofs.Laws.{both-first, both-second, within-high, within-true}
 use Rattle.ranges.proofs.Counted.{below}
 use Rattle.factors.specs.Fractions.{cts, cpl}
 use Rattle.factors.specs.Liquid.{cplFrom}
-use Rattle.factors.proofs.Squeezed.{squeezed-little}
+use Rattle.factors.proofs.Squeezed.{pressure-fits, not-below, squeezed-little, all-fit}
 use Rattle.group.proofs.Bounds.{smallest-at-most-largest}
 use Rattle.draw.specs.Drawn.{adjusted}
 use Rattle.draw.specs.Fill.{fillAt, fillOk}
@@ -33,6 +33,18 @@ less n (suc m) h = below n (suc m) h
 
 less-above : (n m : ℕ) → m < n → AboveZero (pos n -ℤ pos m) (n - m)
 less-above n m h = record { is = less n m (omega arith); above = omega arith }
+
+-- one that goes below zero is no number from 0 on
+short : (n m k : ℕ) → n < m → pos n -ℤ pos m ≡ pos k → ⊥
+short n zero k h is = omega arith
+short n (suc m) k h is = let sign : _≡_ {A = ℕ} 1 0 = ap signOf (sym (negative n (suc m) h) ∙ is) in omega arith
+  where
+    signOf : ℤ → ℕ
+    signOf (pos x) = 0
+    signOf (negsuc x) = 1
+
+    negative : (n m : ℕ) → n < m → subℕ n m ≡ negsuc (m - suc n)
+    negative n m h = rw (lt-ltb n m h)
 
 -- a sum with a signed number that is smaller
 added : (n : ℕ) (z : ℤ) → natAbs z < n → AboveZero (pos n +ℤ z) (natAbs (pos n +ℤ z))
@@ -69,7 +81,7 @@ adjusted-above s i ok =
     added (fillAt s i .certified) (fillAt s i .scale) (omega (arith, fields (fillAt s i) ok .certified-least, scale-small (fillAt s i .scale) scale))
 
 pub signed : Signed
-unfolding cts cplFrom cpl coefficientOk indicated psiOk
+unfolding cts cplFrom cpl pressureOk coefficientOk indicated psiOk
 signed =
     record {
       steel = λ t gc warm coefficient.
@@ -82,20 +94,26 @@ signed =
             divisor-above = record { is = refl; above = omega arith };
           };
       liquid = λ liquid ok.
+          let squeezed = liquid .compressibility * (liquid .pressure - liquid .equilibrium) in
           record {
             top = 100000000;
-            bottom = 100000000 - liquid .compressibility * liquid .pressure;
+            bottom = 100000000 - squeezed;
             is = refl;
             dividend-above = record { is = refl; above = omega arith };
-            divisor-above = less-above 100000000 (liquid .compressibility * liquid .pressure) (omega (arith, squeezed-little liquid ok));
+            divisor-above = subst (λ (above : ℤ). AboveZero (pos 100000000 -ℤ pos (liquid .compressibility) *ℤ above) (100000000 - squeezed)) (sym (less (liquid .pressure) (liquid .equilibrium) (not-below liquid ok)))
+                (less-above 100000000 squeezed (omega (arith, squeezed-little liquid ok)));
           };
+      not-below = λ liquid pressure compressibility. (not-below liquid, λ above. all-fit liquid pressure above compressibility);
+      counted = λ p pe. (λ number. by-cases (decLt p pe) (λ below. absurd (short p pe (number .0) below (number .1))) (λ above. omega arith), λ above. (p - pe, less p pe above));
+      divisor = λ liquid ok. omega (arith, squeezed-little liquid ok);
+      equilibrium = λ liquid ok. within-true 0 1500 (liquid .equilibrium) (omega arith) (omega (arith, not-below liquid ok, within-high 0 1500 (liquid .pressure) (pressure-fits liquid ok)));
       measure = adjusted-above;
       spread = λ values. less _ _ (smallest-at-most-largest values);
       measured = λ t order. less (t .closing) (t .opening) (leb-true (t .opening) (t .closing) order);
       dry = λ t ok. less 100000 (t .sediment) (in-range t ok .sediment);
-      psi = not-below;
+      psi = from-zero;
     }
   where
-    not-below : (z : ℤ) → psiOk z ≡ true → z ≡ pos (natAbs z)
-    not-below (pos n) ok = refl
-    not-below (negsuc n) ok = absurd (apart (sym ok))
+    from-zero : (z : ℤ) → psiOk z ≡ true → z ≡ pos (natAbs z)
+    from-zero (pos n) ok = refl
+    from-zero (negsuc n) ok = absurd (apart (sym ok))

@@ -53,8 +53,8 @@ pub record EntriesC : Type 0 where
   pub cts-six-entry : (κ : _) (a : _) (r : _) (x : _) → cts-six.Post κ a r x → FlatEnds settingNumbers 0 0 0 (factorIn r) (ctsOf 6 (metalBy (second a) (third a)) (first a))
   pub cps-four-entry : (κ : _) (a : _) (r : _) (x : _) → cps-four.Post κ a r x → FlatEnds settingNumbers 0 0 0 (factorIn r) (cpsOf 4 (pipeBy (second a) (third a) (fourth a)) (first a))
   pub cps-six-entry : (κ : _) (a : _) (r : _) (x : _) → cps-six.Post κ a r x → FlatEnds settingNumbers 0 0 0 (factorIn r) (cpsOf 6 (pipeBy (second a) (third a) (fourth a)) (first a))
-  pub cpl-four-entry : (κ : _) (a : _) (r : _) (x : _) → cpl-four.Post κ a r x → FlatEnds liquidNumbers 0 0 0 (factorIn r) (cplOf 4 (liquidBy (first a) (second a)))
-  pub cpl-six-entry : (κ : _) (a : _) (r : _) (x : _) → cpl-six.Post κ a r x → FlatEnds liquidNumbers 0 0 0 (factorIn r) (cplOf 6 (liquidBy (first a) (second a)))
+  pub cpl-four-entry : (κ : _) (a : _) (r : _) (x : _) → cpl-four.Post κ a r x → FlatEnds liquidNumbers 0 0 0 (factorIn r) (cplOf 4 (liquidBy (first a) (second a) (third a)))
+  pub cpl-six-entry : (κ : _) (a : _) (r : _) (x : _) → cpl-six.Post κ a r x → FlatEnds liquidNumbers 0 0 0 (factorIn r) (cplOf 6 (liquidBy (first a) (second a) (third a)))
   -- the job: records 1 to the count of those lent; a refusal leaves the buffer's bytes
   pub prove-entry : (κ : _) (a : _) (r : _) (x : _) → prove.Post κ a r x
       → FlatEnds jobNumbers 1 (runsIn (fifth a .now)) noReport (reportIn r) (jobOf (first a) (proverBy (second a)) (third a) (fourth a) (fifth a .now) (length (sixth a .now)))

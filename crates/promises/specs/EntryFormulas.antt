@@ -51,7 +51,7 @@ pub record EntryFormulas : Type 0 where
   pub cps-of-entry : (κ : _) (a : _) (r : _) (x : _) {q : ℕ} → entry-cps.Post κ a r x → toldFactor r ≡ done q
       → RoundedTo (digits (third a)) (cps (first a) (second a .diameter) (second a .modulus) (second a .wall)) q
   pub cpl-of-entry : (κ : _) (a : _) (r : _) (x : _) {q : ℕ} → entry-cpl.Post κ a r x → toldFactor r ≡ done q
-      → RoundedTo (digits (second a)) (cpl (first a .compressibility) (first a .pressure)) q
+      → RoundedTo (digits (second a)) (cpl (first a .compressibility) (first a .pressure) (first a .equilibrium)) q
   pub combined-of-entry : (κ : _) (a : _) (r : _) (x : _) {q : ℕ} → combine.Post κ a r x → r ≡ Held q
       → RoundedTo (digits (second a)) (combined (digits (second a)) (first a .now)) q
   pub run-of-entry : (κ : _) (a : _) (r : _) (x : _) {f : Figures} → work-out.Post κ a r x → toldRun r ≡ done f → RunRounded (first a) (second a) (third a) f

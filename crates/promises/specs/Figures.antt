@@ -38,8 +38,19 @@ prover = record { metal = MildCarbon; pipe = record { diameter = 10020; wall = 3
 unfoldable pub run : ℕ → Run
 run pulses = record {
   pulses = pulses;
-  prover = record { temperature = pos 735; ctl = 9907; liquid = record { pressure = 40; compressibility = 820 } };
-  meter = record { temperature = pos 735; ctl = 9908; liquid = record { pressure = 40; compressibility = 820 } };
+  prover = record { temperature = pos 735; ctl = 9907; liquid = record { pressure = 40; compressibility = 820; equilibrium = 0 } };
+  meter = record { temperature = pos 735; ctl = 9908; liquid = record { pressure = 40; compressibility = 820; equilibrium = 0 } };
+}
+
+-- propane, as Figure 6 of 000 prints it: base 2.0734, 12 inch pipe, wall 0.375, E 30,000,000; at this pressure at the prover, 395 psi at the meter
+unfoldable pub propaneProver : Prover
+propaneProver = record { metal = MildCarbon; pipe = record { diameter = 12000; wall = 375; modulus = 30000000 }; base = 20734 }
+
+unfoldable pub propane : ℕ → Run
+propane pressure = record {
+  pulses = 28631;
+  prover = record { temperature = pos 770; ctl = 9780; liquid = record { pressure = pressure; compressibility = 2850; equilibrium = 115 } };
+  meter = record { temperature = pos 765; ctl = 9789; liquid = record { pressure = 395; compressibility = 2850; equilibrium = 115 } };
 }
 
 -- a fill record of the paper's numbers; a scale reading below zero stands as its word
@@ -71,7 +82,7 @@ drawn = record { metal = Stainless316; pipe = record { diameter = 10020; wall = 
 -- 1.0002, 0.9908, 40 psi, F 820, at these readings and this S
 unfoldable pub ticket : ℕ → ℕ → ℕ → Ticket
 ticket opening closing sediment =
-    record { opening = opening; closing = closing; mf = 10002; ctl = 9908; liquid = record { pressure = 40; compressibility = 820 }; sediment = sediment }
+    record { opening = opening; closing = closing; mf = 10002; ctl = 9908; liquid = record { pressure = 40; compressibility = 820; equilibrium = 0 }; sediment = sediment }
 
 -- the report of those six factors: what a job leaves in a buffer, where a group of five is found
 unfoldable pub reportOn : List ℕ → List ℕ
@@ -92,7 +103,7 @@ pub record Figures : Type 0 where
   -- 4. 'P 50, ID 10.020, WT 0.365, E 28,000,000, 6 places: 1.000049.'
   pub cps-at-50 : cpsOf 6 (record { diameter = 10020; wall = 365; modulus = 28000000 }) 50 ≡ done 1000049
   -- 5. 'water at 50: 1.000160.'
-  pub cpl-of-water : cplOf 6 (record { pressure = 50; compressibility = 320 }) ≡ done 1000160
+  pub cpl-of-water : cplOf 6 (record { pressure = 50; compressibility = 320; equilibrium = 0 }) ≡ done 1000160
   -- 6. 'base 20.0000, mild, E 30,000,000, the same pipe, 73.5 °F, 40 psi, F 820, CTL 0.9907: prover factor 0.9913, volume 19.8260.
   -- 200,000 pulses, K 10,000.000, meter CTL 0.9908, 40 psi, F 820: 19.8220. Run factor 1.0002.'
   pub one-run : workedOf prover 10000000 (run 200000) 1 ≡ done (record {
@@ -134,6 +145,17 @@ pub record Besides : Type 0 where
   -- one pulse against a K of 1,000,000.000 indicates nothing; half the pulses, twice the factor
   pub no-volume : workedOf prover 1000000000 (run 1) 3 ≡ refused 7 3
   pub no-factor : workedOf prover 10000000 (run 100000) 3 ≡ refused 8 3
+  -- 02: 'CPL becomes 1 / (1 - F × (P - Pe))': every printed value of the figure; at 115 psi CPL is 1; 'P below Pe is 5 in a record'
+  pub figure-6 : workedOf propaneProver 13188000 (propane 385) 1 ≡ done (record {
+    indicated = 21710;
+    cts = 10003;
+    cps = 10004;
+    prover = record { cpl = 10078; factor = 9863; volume = 20450 };
+    meter = record { cpl = 10080; factor = 9867; volume = 21421 };
+    factor = 9547;
+  })
+  pub at-equilibrium : cplOf 4 (propane 115 .prover .liquid) ≡ done 10000
+  pub below-equilibrium : workedOf propaneProver 13188000 (propane 114) 3 ≡ refused 5 3
   -- 'Easy slips': taking the tightest five instead of the first; dividing the spread by the mean
   pub first-not-tightest : firstGroup 5 5 (10005 ∷ 10000 ∷ 10000 ∷ 10000 ∷ 10000 ∷ 10000 ∷ []) ≡ some 0
   pub by-smallest-not-mean : qualifies 5 (9999 ∷ 10004 ∷ 10004 ∷ 10004 ∷ 10004 ∷ []) ≡ false

@@ -40,12 +40,12 @@ pub record RunRounded (prover : Prover) (k : ℕ) (run : Run) (f : Figures) : Ty
   pub indicated-volume : RoundedTo 4 (run .pulses * 1000 over k) (f .indicated)
   pub steel-temperature : RoundedTo 4 (cts (run .prover .temperature) (coefficientOf (prover .metal))) (f .cts)
   pub steel-pressure : RoundedTo 4 (cps (run .prover .liquid .pressure) (prover .pipe .diameter) (prover .pipe .modulus) (prover .pipe .wall)) (f .cps)
-  pub prover-liquid : RoundedTo 4 (cpl (run .prover .liquid .compressibility) (run .prover .liquid .pressure)) (f .prover .cpl)
+  pub prover-liquid : RoundedTo 4 (cpl (run .prover .liquid .compressibility) (run .prover .liquid .pressure) (run .prover .liquid .equilibrium)) (f .prover .cpl)
   -- 'Prover factor from CTS, CPS, CTL and CPL at the prover'
   pub prover-factor : RoundedTo 4 (combined 4 (f .cts ∷ f .cps ∷ run .prover .ctl ∷ f .prover .cpl ∷ [])) (f .prover .factor)
   -- 'Corrected prover volume = base volume × prover factor'
   pub prover-volume : RoundedTo 4 (prover .base * f .prover .factor over 100000000) (f .prover .volume)
-  pub meter-liquid : RoundedTo 4 (cpl (run .meter .liquid .compressibility) (run .meter .liquid .pressure)) (f .meter .cpl)
+  pub meter-liquid : RoundedTo 4 (cpl (run .meter .liquid .compressibility) (run .meter .liquid .pressure) (run .meter .liquid .equilibrium)) (f .meter .cpl)
   -- 'meter factor product from CTL and CPL at the meter'
   pub meter-factor : RoundedTo 4 (combined 4 (run .meter .ctl ∷ f .meter .cpl ∷ [])) (f .meter .factor)
   -- 'Corrected meter volume = indicated volume × meter product'
@@ -67,7 +67,7 @@ pub record FillRounded (metal : Metal) (s : List ℕ) (i : ℕ) (f : FillFigures
 -- 'A pass is the sum of its fills, divided by the unrounded product CPS × CPL, then rounded', each factor counting 10^-6
 pub record PassRounded (prover : Prover) (s : List ℕ) (pass : ℕ) : Type 0 where
   pub pipe-pressure : RoundedTo 6 (cps (passPressure s pass) (prover .pipe .diameter) (prover .pipe .modulus) (prover .pipe .wall)) (cpsAt 6 (prover .pipe) (passPressure s pass))
-  pub water-pressure : RoundedTo 6 (cpl waterCompressibility (passPressure s pass)) (cplAt 6 (waterAt (passPressure s pass)))
+  pub water-pressure : RoundedTo 6 (cpl waterCompressibility (passPressure s pass) 0) (cplAt 6 (waterAt (passPressure s pass)))
   pub pass-volume : RoundedOnce (passSum (prover .metal) s pass * 10 ^ 12) (cpsAt 6 (prover .pipe) (passPressure s pass) * cplAt 6 (waterAt (passPressure s pass))) (passVolume prover s pass)
 
 -- 'Passes start at 1 and never go back or skip ..; all fills of a pass carry one pressure': the passes of the formula are 1 to the count and
@@ -80,8 +80,8 @@ pub record PassesCounted (prover : Prover) (s : List ℕ) : Type 0 where
 
 -- 01, 'Ticket': every figure is its formula on the rounded figures before it
 pub record TicketRounded (t : Ticket) (v : Volumes) : Type 0 where
-  pub liquid : RoundedTo 4 (cpl (t .liquid .compressibility) (t .liquid .pressure)) (cplAt 4 (t .liquid))
-  -- 'Factor = meter factor × CTL × CPL (from the ticket's P and F), 4 places'
+  pub liquid : RoundedTo 4 (cpl (t .liquid .compressibility) (t .liquid .pressure) (t .liquid .equilibrium)) (cplAt 4 (t .liquid))
+  -- 'Factor = meter factor × CTL × CPL (from the ticket's P and F), 4 places'; 02: 'tickets get one as well'
   pub ticket-factor : RoundedTo 4 (combined 4 (t .mf ∷ t .ctl ∷ cplAt 4 (t .liquid) ∷ [])) (v .factor)
   -- 'Gross standard = indicated × factor, to 0.01'
   pub gross-standard : RoundedOnce ((t .closing - t .opening) * v .factor) 10000 (v .gross)

@@ -19,6 +19,7 @@ pub mod InPlaceC
 pub mod Sessions
 pub mod Demand3
 pub mod Signed
+pub mod ZeroGage
 pub mod Formulas
 pub mod EntryFormulas
 pub mod FlatEnding

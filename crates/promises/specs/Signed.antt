@@ -4,10 +4,11 @@
 use mathlib.Core.Path.{_≡_}
 use mathlib.Core.Bool.{true}
 use mathlib.Core.List.{List}
-use Prim.Native.Nat.{ℕ, _-_, _<_}
+use mathlib.Core.Logic.{_↔_}
+use Prim.Native.Nat.{ℕ, _-_, _*_, _<_, _≤_}
 use lib.Dec.{leb}
 use lib.IntN.{ℤ, pos, natAbs, _+ℤ_, _-ℤ_, _*ℤ_}
-use Rattle.ranges.specs.Table.{temperatureOk, coefficientOk}
+use Rattle.ranges.specs.Table.{temperatureOk, pressureOk, coefficientOk, compressibilityOk}
 use Rattle.exact.specs.Rounding.{Fraction, _over_}
 use Rattle.factors.specs.Fractions.{cts}
 use Rattle.factors.specs.Liquid.{liquidOk, cplFrom}
@@ -37,9 +38,16 @@ pub record Signed : Type 0 where
   -- 'CTS = 1 + (T - 60) × Gc', in 10^-8; a water draw's temperatures are among these
   pub steel : (t : ℤ) (gc : ℕ) → temperatureOk t ≡ true → coefficientOk gc ≡ true
       → QuotientOf (pos 100000000 +ℤ (t -ℤ pos 600) *ℤ pos gc) (pos 100000000) (cts t gc)
-  -- 'CPL = 1 / (1 - F × P)', in 10^-8
+  -- 'CPL = 1 / (1 - F × (P - Pe))', in 10^-8
   pub liquid : (liquid : Liquid) → liquidOk liquid ≡ true
-      → QuotientOf (pos 100000000) (pos 100000000 -ℤ pos (liquid .compressibility) *ℤ pos (liquid .pressure)) (cplFrom liquid)
+      → QuotientOf (pos 100000000) (pos 100000000 -ℤ pos (liquid .compressibility) *ℤ (pos (liquid .pressure) -ℤ pos (liquid .equilibrium))) (cplFrom liquid)
+  -- 'P below Pe is 5 .. and 10 ..': of a liquid whose P and F are in range nothing else is asked. Just there P - Pe is a number from 0 on, so that
+  -- it is the one taken, at most 1500, and the divisor is at least 85,000,000. 'Pe is whole psi, 0 to 1500'
+  pub not-below : (liquid : Liquid) → pressureOk (liquid .pressure) ≡ true → compressibilityOk (liquid .compressibility) ≡ true
+      → (liquidOk liquid ≡ true) ↔ (liquid .equilibrium ≤ liquid .pressure)
+  pub counted : (p pe : ℕ) → ((n : ℕ) × (pos p -ℤ pos pe ≡ pos n)) ↔ (pe ≤ p)
+  pub divisor : (liquid : Liquid) → liquidOk liquid ≡ true → 85000000 ≤ 100000000 - liquid .compressibility * (liquid .pressure - liquid .equilibrium)
+  pub equilibrium : (liquid : Liquid) → liquidOk liquid ≡ true → pressureOk (liquid .equilibrium) ≡ true
   -- 'adjusted measure = certified volume + scale reading'
   pub measure : (s : List ℕ) (i : ℕ) → fillOk (fillAt s i) ≡ true → AboveZero (pos (fillAt s i .certified) +ℤ fillAt s i .scale) (adjusted (fillAt s i))
   -- '(largest - smallest)', of any values

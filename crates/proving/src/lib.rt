@@ -53,7 +53,7 @@ fn judge_record(records: &[u8], i: usize) -> Verdict
             Refusal::RecordField(number),
         ),
         refusals::demand(
-            octets::are_zero(records, at + 20, at + 32),
+            octets::are_zero(records, at + 24, at + 32),
             Refusal::UnnamedByte(number),
         ),
     )

@@ -39,8 +39,8 @@ module _ (s : List ℕ) {at : ℕ} (h : length s ≤ at) where
       λ i.
       record {
         pulses = pulses i;
-        prover = record { temperature = signedOf (word-past 4 i); ctl = word-past 12 i; liquid = record { pressure = word-past 8 i; compressibility = word-past 16 i } };
-        meter = record { temperature = signedOf (word-past 6 i); ctl = word-past 14 i; liquid = record { pressure = word-past 10 i; compressibility = word-past 18 i } };
+        prover = record { temperature = signedOf (word-past 4 i); ctl = word-past 12 i; liquid = record { pressure = word-past 8 i; compressibility = word-past 16 i; equilibrium = word-past 20 i } };
+        meter = record { temperature = signedOf (word-past 6 i); ctl = word-past 14 i; liquid = record { pressure = word-past 10 i; compressibility = word-past 18 i; equilibrium = word-past 22 i } };
       }
 
 -- a side's ranges, one by one

@@ -12,13 +12,22 @@ use Rattle.run.specs.declared.Side.{Side}
 abbrev pub runSize : ℕ
 runSize = 32
 
--- '0 pulses (4), 4 prover T (signed 2), 6 meter T (signed 2), 8 prover P, 10 meter P, 12 prover CTL, 14 meter CTL, 16 prover F, 18 meter F (2 each)'
+-- '0 pulses (4), 4 prover T (signed 2), 6 meter T (signed 2), 8 prover P, 10 meter P, 12 prover CTL, 14 meter CTL, 16 prover F, 18 meter F (2 each)';
+-- 02: 'Run records hold it at bytes 20 (prover) and 22 (meter)'
 unfoldable pub runFrom : List ℕ → ℕ → Run
 runFrom s at =
     record {
       pulses = longAt s at;
-      prover = record { temperature = signedAt s (at + 4); ctl = wordAt s (at + 12); liquid = record { pressure = wordAt s (at + 8); compressibility = wordAt s (at + 16) } };
-      meter = record { temperature = signedAt s (at + 6); ctl = wordAt s (at + 14); liquid = record { pressure = wordAt s (at + 10); compressibility = wordAt s (at + 18) } };
+      prover = record {
+        temperature = signedAt s (at + 4);
+        ctl = wordAt s (at + 12);
+        liquid = record { pressure = wordAt s (at + 8); compressibility = wordAt s (at + 16); equilibrium = wordAt s (at + 20) };
+      };
+      meter = record {
+        temperature = signedAt s (at + 6);
+        ctl = wordAt s (at + 14);
+        liquid = record { pressure = wordAt s (at + 10); compressibility = wordAt s (at + 18); equilibrium = wordAt s (at + 22) };
+      };
     }
 
 -- the run at place i, counted from 0, of records of a size
@@ -34,4 +43,4 @@ runOk run = pulsesOk (run .pulses) && (sideOk (run .prover) && sideOk (run .mete
 
 -- 'bytes not named are zero', or number 2: those of the record at place i
 unfoldable pub unnamedOk : ℕ → List ℕ → ℕ → Bool
-unnamedOk size s i = zeroBetween s (size * i + 20) (size * i + size)
+unnamedOk size s i = zeroBetween s (size * i + 24) (size * i + size)

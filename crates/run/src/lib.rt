@@ -18,7 +18,7 @@ use factors::Prover;
 use refusals::Refusal;
 use refusals::Verdict;
 
-// The readings at one side of the run: T in 0.1 °F, CTL in 0.0001, and the liquid's P and F.
+// The readings at one side of the run: T in 0.1 °F, CTL in 0.0001, and the liquid's P, F and Pe.
 pub struct Side {
     pub temperature: i16,
     pub ctl: u16,
@@ -67,6 +67,7 @@ fn read_fields(s: &[u8], at: usize) -> Run
         liquid: Liquid {
             pressure: octets::word_at(s, at + 8),
             compressibility: octets::word_at(s, at + 16),
+            equilibrium: octets::word_at(s, at + 20),
         },
     };
     let meter = Side {
@@ -75,6 +76,7 @@ fn read_fields(s: &[u8], at: usize) -> Run
         liquid: Liquid {
             pressure: octets::word_at(s, at + 10),
             compressibility: octets::word_at(s, at + 18),
+            equilibrium: octets::word_at(s, at + 22),
         },
     };
     Run {
@@ -218,7 +220,7 @@ pub fn show(prover: Prover, k: u32, bytes: &[u8]) -> Worked
         refusals::demand(bytes.len() == 32, Refusal::Records),
         refusals::or_else(
             judge(prover, k, run, 1),
-            refusals::demand(octets::are_zero(bytes, 20, 32), Refusal::UnnamedByte(1)),
+            refusals::demand(octets::are_zero(bytes, 24, 32), Refusal::UnnamedByte(1)),
         ),
     );
     match verdict {

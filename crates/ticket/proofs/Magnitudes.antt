@@ -17,7 +17,7 @@ use Rattle.ticket.specs.Ranges.{ticketOk}
 use Rattle.ticket.specs.Formulas.{indicated, factor, gross}
 use Rattle.ticket.specs.declared.Ticket.{Ticket}
 
--- the upper ends of the ranges, and P and F within theirs
+-- the upper ends of the ranges, and the liquid within its own
 pub record Bounds (t : Ticket) : Type 0 where
   pub closing : t .closing ≤ 99999999
   pub mf : t .mf ≤ 12000

@@ -9,7 +9,7 @@ use Rattle.ticket.specs.declared.Ticket.{Ticket}
 unfoldable pub indicated : Ticket → ℕ
 indicated t = t .closing - t .opening
 
--- Factor = meter factor × CTL × CPL (from the ticket's P and F), 4 places
+-- Factor = meter factor × CTL × CPL (from the ticket's P, F and Pe), 4 places
 unfoldable pub factor : Ticket → ℕ
 factor t = combinedAt 4 (t .mf ∷ t .ctl ∷ cplAt 4 (t .liquid) ∷ [])
 

@@ -4,6 +4,6 @@ use Rattle.ranges.specs.Table.{ctlOk, readingOk, meterFactorOk, sedimentOk}
 use Rattle.factors.specs.Liquid.{liquidOk}
 use Rattle.ticket.specs.declared.Ticket.{Ticket}
 
--- the readings, the meter factor, CTL, P and F, and S, or number 10
+-- the readings, the meter factor, CTL, P not below Pe and F, and S, or number 10
 unfoldable pub ticketOk : Ticket → Bool
 ticketOk t = readingOk (t .opening) && (readingOk (t .closing) && (meterFactorOk (t .mf) && (ctlOk (t .ctl) && (liquidOk (t .liquid) && sedimentOk (t .sediment)))))

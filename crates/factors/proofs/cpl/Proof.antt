@@ -8,11 +8,14 @@ use Rattle.factors.specs.Fractions.{cpl}
 use Rattle.factors.specs.Liquid.{liquidOk, cplFrom}
 use Rattle.factors.specs.Rounded.{cplAt}
 use Rattle.factors.specs.Answers.{told, cplOf}
-use Rattle.factors.proofs.Squeezed.{squeezed-little}
+use Rattle.factors.proofs.Squeezed.{not-below, squeezed-little}
 use Rattle.factors.proofs.cpl.Tie as tie
 
 fits : (c : tie.Then1) → liquidOk (c .before .before .args .liquid) ≡ true
 fits c = sym (c .before .is-liquid .ensures) ∙ c .if1 .taken
+
+sub-above : tie.Need-sub-above
+sub-above c = not-below _ (fits (c .before))
 
 mul-squeezed : tie.Need-mul-squeezed
 mul-squeezed c = omega (arith, squeezed-little _ (fits (c .before .before)))
@@ -32,4 +35,4 @@ unfolding cplOf
 returns-2 c = sym (judged-fault _ (demand-fails 5 (sym (c .before .is-liquid .ensures) ∙ c .if1 .left)))
 
 pub cpl-spec : {M : Type 1} → Rattle.factors.proofs.cpl.Statement.statement M
-cpl-spec = tie.close (tie.spec (search needs) (search needs) (search needs) mul-squeezed sub-round round-requires returns returns-2)
+cpl-spec = tie.close (tie.spec (search needs) sub-above (search needs) (search needs) mul-squeezed sub-round round-requires returns returns-2)

@@ -9,19 +9,28 @@ use Rattle.run.proofs.read_fields.Tie as tie
 returns : tie.Need-returns
 unfolding runFrom
 returns c =
-    let f = c .before .before .before .before in
-    let p = f .before .before .before .before in
+    let f = c .before .before .before .before .before in
+    let p = f .before .before .before .before .before in
     let warm = toZ-ofZ w16 (p .signed-at .result) (record { sfits = p .signed-at .ok }) ∙ p .signed-at .ensures in
     let metered = toZ-ofZ w16 (f .signed-at2 .result) (record { sfits = f .signed-at2 .ok }) ∙ f .signed-at2 .ensures in
     λ i.
     record {
       pulses = c .long-at .ensures i;
-      prover = record { temperature = warm i; ctl = f .before .before .before .word-at .ensures i; liquid = record { pressure = f .before .before .word-at2 .ensures i; compressibility = f .before .word-at3 .ensures i } };
-      meter = record { temperature = metered i; ctl = c .before .before .before .word-at4 .ensures i; liquid = record { pressure = c .before .before .word-at5 .ensures i; compressibility = c .before .word-at6 .ensures i } };
+      prover = record {
+        temperature = warm i;
+        ctl = f .before .before .before .before .word-at .ensures i;
+        liquid = record { pressure = f .before .before .before .word-at2 .ensures i; compressibility = f .before .before .word-at3 .ensures i; equilibrium = f .before .word-at4 .ensures i };
+      };
+      meter = record {
+        temperature = metered i;
+        ctl = c .before .before .before .before .word-at5 .ensures i;
+        liquid = record { pressure = c .before .before .before .word-at6 .ensures i; compressibility = c .before .before .word-at7 .ensures i; equilibrium = c .before .word-at8 .ensures i };
+      };
     }
 
 pub read-fields-spec : {M : Type 1} → Rattle.run.proofs.read_fields.Statement.statement M
 read-fields-spec =
     tie.close
     (tie.spec (search needs) (search needs) (search needs) (search needs) (search needs) (search needs) (search needs) (search needs) (search needs)
-    (search needs) (search needs) (search needs) (search needs) (search needs) (search needs) (search needs) (search needs) returns)
+    (search needs) (search needs) (search needs) (search needs) (search needs) (search needs) (search needs) (search needs) (search needs)
+    (search needs) (search needs) (search needs) returns)
