@@ -113,8 +113,8 @@ EndakuroFactor endakuro_cps_four(uint16_t p, uint32_t diameter, uint32_t wall, u
 EndakuroFactor endakuro_cps_six(uint16_t p, uint32_t diameter, uint32_t wall, uint32_t modulus);
 
 /* CPL, the effect of pressure on the liquid: 1 / (1 - F × (P - Pe)). Refuses 5; record is 0. */
-EndakuroFactor endakuro_cpl_four(uint16_t pressure, uint16_t compressibility, uint16_t equilibrium);
-EndakuroFactor endakuro_cpl_six(uint16_t pressure, uint16_t compressibility, uint16_t equilibrium);
+EndakuroFactor endakuro_cpl_four(uint16_t p, uint16_t f, uint16_t pe);
+EndakuroFactor endakuro_cpl_six(uint16_t p, uint16_t f, uint16_t pe);
 
 /* ---- Proving, by pipe prover ---- */
 

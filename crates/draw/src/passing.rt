@@ -62,7 +62,7 @@ fn find_pressure(s: &[u8], pass: u8) -> u16
     0
 }
 
-// 'For water F is 320'; it does not boil at line conditions, so that its Pe is 0.
+// 'For water F is 320'.
 const WATER_COMPRESSIBILITY: u16 = 320;
 
 // The sum divided by the unrounded product of the two rounded factors.
@@ -74,6 +74,7 @@ fn correct(pipe: Pipe, pressure: u16, sum: u64) -> u64
     let water = Liquid {
         pressure,
         compressibility: WATER_COMPRESSIBILITY,
+        // 'Water draw uses Pe 0'
         equilibrium: 0,
     };
     let cpl = factors::value_or_zero(factors::cpl(water, Places::Six)) as u64;

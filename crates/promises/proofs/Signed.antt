@@ -37,12 +37,8 @@ less-above n m h = record { is = less n m (omega arith); above = omega arith }
 -- one that goes below zero is no number from 0 on
 short : (n m k : ℕ) → n < m → pos n -ℤ pos m ≡ pos k → ⊥
 short n zero k h is = omega arith
-short n (suc m) k h is = let sign : _≡_ {A = ℕ} 1 0 = ap signOf (sym (negative n (suc m) h) ∙ is) in omega arith
+short n (suc m) k h is = let apart : negsuc (suc m - suc n) ≡ pos k = sym (negative n (suc m) h) ∙ is in let z : _≡_ {A = ℕ} 0 1 = cc in omega arith
   where
-    signOf : ℤ → ℕ
-    signOf (pos x) = 0
-    signOf (negsuc x) = 1
-
     negative : (n m : ℕ) → n < m → subℕ n m ≡ negsuc (m - suc n)
     negative n m h = rw (lt-ltb n m h)
 
