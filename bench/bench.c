@@ -7,7 +7,7 @@
 #include <stdlib.h>
 #include <time.h>
 
-static const Kind *const kinds[] = {&jobs, &draws, &tickets, &readings, &calls, &quotients};
+static const Kind *const kinds[] = {&jobs, &draws, &tickets, &readings, &panel, &calls, &quotients};
 
 #define KINDS (sizeof kinds / sizeof *kinds)
 

@@ -12,6 +12,8 @@
     EndakuroDraw side##_draw(EndakuroProver prover, const uint8_t *records, size_t size);                              \
     EndakuroVolumes side##_ticket(EndakuroTicket ticket);                                                              \
     EndakuroLive side##_live(float temperature, float pressure);                                                       \
+    EndakuroPanel side##_panel_temperature(int16_t tenths);                                                            \
+    EndakuroPanel side##_panel_pressure(uint16_t psi);                                                                 \
     EndakuroDone side##_request(EndakuroBook *book, uint8_t shipper, uint32_t number);                                 \
     EndakuroDone side##_withdraw(EndakuroBook *book, uint8_t shipper, uint32_t number);                                \
     EndakuroTaken side##_take(EndakuroBook *book);                                                                     \

@@ -124,14 +124,23 @@ def ticket(worked):
     return told | ({"result": told_figures(worked.answer, TICKET_UNITS)} if worked.answer else {})
 
 
+def singles(told):
+    return {key: {"number": own.number, "bits": own.bits} for key, own in told.items()}
+
+
 def live(worked):
-    told = {"readings": {key: {"number": own.number, "bits": own.bits} for key, own in worked.job.singles.items()}}
+    told = {"readings": singles(worked.job.singles)}
     if worked.answer:
         told["result"] = read_figures(dict(zip(fields.LIVE, worked.answer)), fields.LIVE)
-    return told
+    return told | ({"panel": singles(worked.panel)} if worked.panel else {})
 
 
-BODIES = {"prove": proving, "draw": draw, "ticket": ticket, "live": live}
+def panel(worked):
+    told = {"readings": read_figures(worked.job.counts, fields.PANEL)}
+    return told | ({"result": singles(worked.answer)} if worked.answer else {})
+
+
+BODIES = {"prove": proving, "draw": draw, "ticket": ticket, "live": live, "panel": panel}
 
 
 def record(name, octets, told=None, explained=None):

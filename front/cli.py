@@ -64,6 +64,10 @@ def parser():
     job_of(live)
     writes(live, "--html", "OUT.html", "write the reading for print, one sheet of Letter or A4")
 
+    panel = command("panel", commands.panel, "numbers for the panel: tenths and psi to singles", helps.PANEL)
+    job_of(panel)
+    writes(panel, "--html", "OUT.html", "write the numbers for print, one sheet of Letter or A4")
+
     read = command("read", commands.read, "a report record read back", helps.READ)
     source = read.add_mutually_exclusive_group(required=True)
     source.add_argument("record", nargs="?", metavar="RECORD", help="the record's file, as prove --record writes it")

@@ -74,7 +74,7 @@ def refuse_job(options, worked):
     return status
 
 
-prove, draw, ticket, live = (job(kind) for kind in ("prove", "draw", "ticket", "live"))
+prove, draw, ticket, live, panel = (job(kind) for kind in ("prove", "draw", "ticket", "live", "panel"))
 
 
 def read(options, program):

@@ -163,8 +163,12 @@ def of_live(job, refusal, program):
         key = "temperature"
     field, given = fields.LIVE[key], job.singles[key]
     judged = f"range {field.range} to the nearest {field.unit.step}"
-    words = f"{field.label} is {given.text} (single {given.bits}), {judged}"
+    words = f"{field.label} is {given.text}, {judged}"
     return [Detail(words, key, None, field.low, field.high, field.unit)]
 
 
-FINDERS = {"prove": of_proving, "draw": of_draw, "ticket": of_ticket, "live": of_live}
+def of_panel(job, refusal, program):
+    return out_of_range(job.counts, fields.PANEL)
+
+
+FINDERS = {"prove": of_proving, "draw": of_draw, "ticket": of_ticket, "live": of_live, "panel": of_panel}

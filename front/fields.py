@@ -138,6 +138,8 @@ LIVE = named(
     Field("temperature", "temperature", DEGREE, -200, 2000, "h"),
     Field("pressure", "pressure", PSI, 0, 1500, "H"),
 )
+# The panel takes what a live reading comes to.
+PANEL = LIVE
 
 # How the page names what a job file often says in its [heading]; any other key is named by itself.
 HEADING = {

@@ -5,6 +5,7 @@ from dataclasses import dataclass
 from . import fields
 from .program import hexed
 from .records import FILL_LAYOUT, LENGTH
+from .singles import Single
 
 OF_A_RUN = (
     "indicated", "cts", "cps", "prover_cpl", "prover_factor", "meter_cpl", "meter_product",
@@ -120,6 +121,19 @@ def ticket(job, program):
 
 def live(job, program):
     return program.numbers("live", *(single.bits for single in job.singles.values()))
+
+
+def on_panel(counts, program):
+    """The single that the panel shows of each; the temperature is asked first, as it is judged first in a reading."""
+    shown = {}
+    for key, field in fields.PANEL.items():
+        [bits] = program.ask(f"panel_{key}", counts[key])
+        shown[key] = Single(bits, field.unit.name)
+    return shown
+
+
+def panel(job, program):
+    return on_panel(job.counts, program)
 
 
 def read(record, program):

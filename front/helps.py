@@ -89,9 +89,16 @@ TICKET = described(
     ["[ticket]", *keys(fields.TICKET)],
 )
 LIVE = described(
-    "Prints a transmitter's temperature and pressure as the skid takes them. Each is a number that a\n"
-    'single holds exactly (73.25), nan or inf, or the single\'s bits in quotes ("42928000").',
+    "Prints a transmitter's temperature and pressure as the skid takes them, and the singles by which the\n"
+    "operator's panel shows them. Each is a number that a single holds exactly (73.25), nan or inf, or the\n"
+    'single\'s bits in quotes ("42928000").',
     ["[live]", *keys(fields.LIVE)],
+)
+PANEL = described(
+    "Prints the singles by which the operator's panel shows a temperature and a pressure, for those who wire\n"
+    "or check one: each with its bits, most significant first, and the exact number in them. A temperature is\n"
+    "the single nearest to it, a pressure is shown exactly.",
+    ["[panel]", *keys(fields.PANEL)],
 )
 READ = "Prints what a 32-byte report record says: request, meter factor, the accepted runs and their factors."
 BOOK = "\n".join(

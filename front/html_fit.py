@@ -111,8 +111,8 @@ def height(block, size, width, row=ROW):
     match block:
         case Section():
             return 2.3
-        case Pairs(rows):
-            return LINE * pairs_height(rows, room, width < WIDTH) + 0.4
+        case Pairs(rows, alone):
+            return LINE * pairs_height(rows, room, alone or width < WIDTH) + 0.4
         case Blanks(names):
             return LINE * 1.4 * ceil(len(names) / 2) + 0.4
         case Grid():

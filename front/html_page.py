@@ -59,11 +59,11 @@ def section(block):
 
 
 def pairs(block):
-    rows = (
-        f"<div{' class=alone' * (len(value) > LONGEST_IN_HALF)}><dt>{words(name)}</dt><dd>{words(value)}</dd></div>"
-        for name, value in block.rows
-    )
-    return f"<dl>{''.join(rows)}</dl>"
+    def row(name, value):
+        look = " class=alone" * (block.alone or len(value) > LONGEST_IN_HALF)
+        return f"<div{look}><dt>{words(name)}</dt><dd>{words(value)}</dd></div>"
+
+    return f"<dl>{''.join(row(name, value) for name, value in block.rows)}</dl>"
 
 
 def grid(block):

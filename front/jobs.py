@@ -7,7 +7,7 @@ from . import entry_files, fields
 from .badfile import BadFile
 from .hints import echo
 from .jobfiles import File, octets_of
-from .kinds import Draw, Entry, Live, Prover, Proving, Ticket
+from .kinds import Draw, Entry, Live, Panel, Prover, Proving, Ticket
 from .records import FILL_LAYOUT, LENGTH, RUN_LAYOUT
 from .singles import single
 from .tables import TOLD, Table, kind_of
@@ -15,7 +15,8 @@ from .tables import TOLD, Table, kind_of
 # Far more than any job may have; a line of the program holds them, so that the program refuses the job itself.
 MOST_ENTRIES = 4096
 # What tells the kind of a job: the tables that no other kind has.
-KIND_OF_TABLE = {"run": "prove", "runs": "prove", "fill": "draw", "fills": "draw", "ticket": "ticket", "live": "live"}
+KIND_OF_TABLE = {"run": "prove", "runs": "prove", "fill": "draw", "fills": "draw"}
+KIND_OF_TABLE |= {"ticket": "ticket", "live": "live", "panel": "panel"}
 PROVER = ("metal", "coefficient", *fields.PIPE, "base_volume")
 OF_PROVING = ("request", "repeatability_limit")
 # Where a key belongs, to be told where it stands elsewhere.
@@ -111,23 +112,30 @@ def draw_of(top):
     return Draw(top.file.path, heading_of(top), prover, fills)
 
 
+def sole_table(top, key, known):
+    """The table of a job that has no other but its heading."""
+    top.only(["heading", key], dict.fromkeys(known, f"in [{key}]"))
+    table = top.table(key)
+    table.only(known)
+    return table
+
+
 def ticket_of(top):
-    homes = dict.fromkeys(fields.TICKET, "in [ticket]")
-    top.only(["heading", "ticket"], homes)
-    table = top.table("ticket")
-    table.only(fields.TICKET)
+    table = sole_table(top, "ticket", fields.TICKET)
     return Ticket(top.file.path, heading_of(top), {key: table.count(each) for key, each in fields.TICKET.items()})
 
 
 def live_of(top):
-    homes = dict.fromkeys(fields.LIVE, "in [live]")
-    top.only(["heading", "live"], homes)
-    table = top.table("live")
-    table.only(fields.LIVE)
+    table = sole_table(top, "live", fields.LIVE)
     return Live(top.file.path, heading_of(top), {key: single(table, each) for key, each in fields.LIVE.items()})
 
 
-READERS = {"prove": proving_of, "draw": draw_of, "ticket": ticket_of, "live": live_of}
+def panel_of(top):
+    table = sole_table(top, "panel", fields.PANEL)
+    return Panel(top.file.path, heading_of(top), {key: table.count(each) for key, each in fields.PANEL.items()})
+
+
+READERS = {"prove": proving_of, "draw": draw_of, "ticket": ticket_of, "live": live_of, "panel": panel_of}
 
 
 def read(path, wanted=None):
@@ -140,7 +148,7 @@ def read(path, wanted=None):
         raise BadFile(file.path, "", f"is a job of the kind {kinds[0]}: try ./endakuro {kinds[0]} {file.path}")
     if not wanted and not kinds:
         file.finish()
-        raise BadFile(file.path, "", "holds no job: expected [[run]], [[fill]], [ticket] or [live]")
+        raise BadFile(file.path, "", "holds no job: expected [[run]], [[fill]], [ticket], [live] or [panel]")
     job = READERS[wanted or kinds[0]](Table(file, "", values))
     file.finish()
     digest = sha256(b"".join((octets, *file.named.values()))).hexdigest()

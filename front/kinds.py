@@ -99,3 +99,13 @@ class Live:
     digest: str = ""
     files: tuple = ()
     kind = "live"
+
+
+@dataclass(frozen=True)
+class Panel:
+    path: str
+    heading: dict
+    counts: dict
+    digest: str = ""
+    files: tuple = ()
+    kind = "panel"

@@ -20,9 +20,10 @@ class Section(NamedTuple):
 
 
 class Pairs(NamedTuple):
-    """Names and values."""
+    """Names and values; short ones stand two a line in print, unless each is to stand `alone`."""
 
     rows: list
+    alone: bool = False
 
 
 class Grid(NamedTuple):

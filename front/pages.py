@@ -2,7 +2,10 @@
 
 from . import draw_report, html_page, plot, report, short_pages
 
-BUILDERS = {"prove": report.build, "draw": draw_report.build, "ticket": short_pages.ticket, "live": short_pages.live}
+BUILDERS = {
+    "prove": report.build, "draw": draw_report.build, "ticket": short_pages.ticket, "live": short_pages.live,
+    "panel": short_pages.panel,
+}  # fmt: skip
 
 
 def build(worked):

@@ -115,9 +115,18 @@ def ticketed(job, program):
     return {"gross (bbl)": shown(told["gross"], 2, False), "net (bbl)": shown(told["net"], 2, False)}
 
 
-def read_live(job, program):
-    temperature, pressure = figures.live(job, program)
+def reading(temperature, pressure):
     return {"temperature (°F)": shown(temperature, 1, False), "pressure (psi)": shown(pressure, 0, False)}
+
+
+def read_live(job, program):
+    return reading(*figures.live(job, program))
+
+
+def on_panel(job, program):
+    """Asked for its refusal alone: its row has what was read, and no column is a single's."""
+    figures.panel(job, program)
+    return {}
 
 
 GIVEN = {
@@ -125,5 +134,6 @@ GIVEN = {
     "draw": lambda job: {"limit (%)": shown(fields.DRAW_LIMIT, LIMIT.unit.places)},
     "ticket": lambda job: {"meter factor": shown(job.counts["meter_factor"], 4, False)},
     "live": lambda job: {},
+    "panel": lambda job: reading(**job.counts),
 }
-ANSWERS = {"prove": proved, "draw": drawn, "ticket": ticketed, "live": read_live}
+ANSWERS = {"prove": proved, "draw": drawn, "ticket": ticketed, "live": read_live, "panel": on_panel}

@@ -1,7 +1,7 @@
-"""The short pages: a measurement ticket, a live reading, a report record read back."""
+"""The short pages: a measurement ticket, a live reading, numbers for the panel, a report record read back."""
 
 from . import fields, page, version
-from .fields import CPL_FROM_PE, FACTOR, LIVE, READING
+from .fields import CPL_FROM_PE, FACTOR, LIVE, PANEL, READING
 from .page import Page, Pairs, Section, Signatures
 from .records import LENGTH
 from .units import shown
@@ -36,18 +36,29 @@ def volumes(figures, boils):
 
 
 def live(worked):
-    job, rows = worked.job, []
-    for key, field in LIVE.items():
-        single = job.singles[key]
-        rows.append([field.label.capitalize(), f"{single.text} (single {single.bits})"])
-    for row, field, count in zip(rows, LIVE.values(), worked.answer or ()):
-        row[1] = f"{field.text(count)}, from {row[1]}"
-    blocks = [*page.heading(job, ()), Section("READING"), Pairs(rows)]
+    job = worked.job
+    told = {key: single.text for key, single in job.singles.items()}
+    for (key, field), count in zip(LIVE.items(), worked.answer or ()):
+        told[key] = f"{field.text(count)}, from {told[key]}"
+    blocks = [*page.heading(job, ()), Section("READING"), labelled(LIVE, told)]
+    if worked.panel:
+        shows = {key: single.text for key, single in worked.panel.items()}
+        blocks += [Section("ON THE PANEL"), labelled(PANEL, shows, alone=True)]
     return Page("LIVE READING", "to the nearest 0.1 °F and 1 psi", blocks, page.verdict(worked.refusal))
 
 
-def live_words(answer):
-    return ", ".join(field.text(count) for field, count in zip(LIVE.values(), answer))
+def panel(worked):
+    job = worked.job
+    told = {key: field.text(job.counts[key]) for key, field in PANEL.items()}
+    for key, single in (worked.answer or {}).items():
+        told[key] += f", shown as {single.text}"
+    blocks = [*page.heading(job, ()), Section("NUMBERS"), labelled(PANEL, told, alone=True)]
+    right = "temperature to the nearest single, pressure exactly"
+    return Page("PANEL NUMBERS", right, blocks, page.verdict(worked.refusal))
+
+
+def labelled(known, told, alone=False):
+    return Pairs([(field.label.capitalize(), told[key]) for key, field in known.items()], alone)
 
 
 def read(name, record, told, refusal=None):

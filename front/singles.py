@@ -1,4 +1,4 @@
-"""Singles (IEEE 754) of a live reading: what a transmitter sends, as its bits or as the exact number that they hold."""
+"""Singles (IEEE 754): what a transmitter sends and the panel takes, as bits or as the exact number that they hold."""
 
 import re
 import struct
@@ -26,7 +26,8 @@ class Single:
 
     @property
     def text(self):
-        return f"{self.number} {self.unit}"
+        """Both, as pages and refusals tell a single."""
+        return f"{self.number} {self.unit} (single {self.bits})"
 
 
 def bits_of(number):

@@ -89,4 +89,9 @@ def live():
     return text + rows(fields.LIVE, {"temperature": "73.25", "pressure": "40"})
 
 
-TEXTS = {"prove": proving(), "draw": draw(), "ticket": ticket(), "live": live()}
+def panel():
+    text = HEAD.format(what="Numbers for the panel", kind="panel") + HEADING.format(title="A panel")
+    return text + "\n[panel]\n" + rows(fields.PANEL, {"temperature": "73.3", "pressure": "40"})
+
+
+TEXTS = {"prove": proving(), "draw": draw(), "ticket": ticket(), "live": live(), "panel": panel()}

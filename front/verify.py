@@ -123,6 +123,9 @@ def verify(report, job, program):
     if job.digest not in found:
         return OTHER, f"is not that job's: it is of the job file with SHA-256 {found[0]}, that job's is {job.digest}"
     difference = compared(octets, worked, program)
+    if difference and worked.panel:
+        # An earlier version tells nothing of the panel.
+        difference = compared(octets, replace(worked, panel=None), program) and difference
     if difference:
         return CHANGED, f"carries that job's SHA-256, but is not what {version.NAME} makes of it: {difference}"
     return SAME, f"is that job's, and all of it is what {version.NAME} makes of it"

@@ -21,6 +21,8 @@ class Worked:
     fills: list | None = None
     passes: list | None = None
     group: figures.Group | None = None
+    # What the panel shows of a live reading, a single each.
+    panel: dict | None = None
 
     @property
     def accepted(self):
@@ -63,7 +65,14 @@ def ticket(job, program):
 
 
 def live(job, program):
-    return Worked(job, *answered(figures.live, job, program))
+    answer, refusal = answered(figures.live, job, program)
+    if refusal:
+        return Worked(job, refusal=refusal)
+    return Worked(job, answer, panel=figures.on_panel(dict(zip(fields.LIVE, answer)), program))
+
+
+def panel(job, program):
+    return Worked(job, *answered(figures.panel, job, program))
 
 
 def answered(asked, job, program):
@@ -74,7 +83,7 @@ def answered(asked, job, program):
         return None, faults.explain(job, refused.refusal, program)
 
 
-WORKERS = {"prove": prove, "draw": draw, "ticket": ticket, "live": live}
+WORKERS = {"prove": prove, "draw": draw, "ticket": ticket, "live": live, "panel": panel}
 
 
 def work(job, program):

@@ -23,7 +23,7 @@
  *   10   ticket field out of range, or P below Pe        27  nothing to take
  *   11   closing below opening
  *   12   reading not finite
- *   13   reading out of range
+ *   13   reading, or number for the panel, out of range
  *
  * UNITS AND RANGES, whole numbers all of them. Outside its range a number is refused, never bent.
  *
@@ -46,7 +46,8 @@
  *   sediment and water S               0.001 %                    0 to 100000
  *   runs in a job, passes and fills    one                        5 to 20, 3 to 20 and 3 to 60
  *
- * Every result is rounded once, to the unit that is named with it, halves upward.
+ * Every result is rounded once, to the unit that is named with it, halves upward. A live reading and a number for
+ * the panel are rounded once too, each as it says.
  *
  * BYTES are lent as a pointer and a length. The pointer is never NULL, also where the length is 0. Lent
  * records and a lent buffer do not overlap.
@@ -272,6 +273,23 @@ typedef struct EndakuroLive {
  * 13 for the temperature, then 12, 13 for the pressure; the range is judged on the whole number. */
 EndakuroLive endakuro_live(float temperature, float pressure);
 
+/* ---- The panel ----
+ *
+ * The operator's panel takes singles, in °F and psi gage. endakuro_live of the two singles shown gives the tenths
+ * and the psi back, whatever they are. */
+
+typedef struct EndakuroPanel {
+    uint16_t number;
+    uint16_t record; /* always 0 */
+    float shown;     /* °F or psi gage */
+} EndakuroPanel;
+
+/* A temperature, -200 to 2000 in 0.1 °F, as the single nearest to tenths / 10, rounded once; 0 is +0. Refuses 13. */
+EndakuroPanel endakuro_panel_temperature(int16_t tenths);
+
+/* A pressure, 0 to 1500 psi gage, as the single that is exactly that number. Refuses 13. */
+EndakuroPanel endakuro_panel_pressure(uint16_t psi);
+
 /* ---- The book of waiting requests ----
  *
  * Four shippers, 0 to 3, share one prover. Each has 2 places of its own; 8 more are shared; nobody has more
@@ -426,6 +444,10 @@ ENDAKURO_AT(EndakuroLive, record, 2);
 ENDAKURO_AT(EndakuroLive, tenths, 4);
 ENDAKURO_AT(EndakuroLive, psi, 6);
 ENDAKURO_SIZE(EndakuroLive, 8);
+
+ENDAKURO_AT(EndakuroPanel, record, 2);
+ENDAKURO_AT(EndakuroPanel, shown, 4);
+ENDAKURO_SIZE(EndakuroPanel, 8);
 
 ENDAKURO_AT(EndakuroLine, count, 64);
 ENDAKURO_SIZE(EndakuroLine, 72);

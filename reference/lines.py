@@ -66,6 +66,11 @@ def single(word):
     return int(word, 16)
 
 
+def single_octets(bits):
+    """A single as an answer tells it, which is how an operand is written."""
+    return bits.to_bytes(4, "big")
+
+
 SETTINGS = (u8, u16, u32, u32, u32, u32)
 
 
@@ -165,6 +170,14 @@ def answer_live(temperature, pressure):
     return ok(*live.live(temperature, pressure))
 
 
+def answer_panel_temperature(tenths):
+    return ok(single_octets(live.panel_temperature(tenths)))
+
+
+def answer_panel_pressure(psi):
+    return ok(single_octets(live.panel_pressure(psi)))
+
+
 def answer_spread(*values):
     return ok(*group.spread(values))
 
@@ -232,6 +245,8 @@ ENTRIES = {
     b"passes": ((*SETTINGS, octets), answer_passes),
     b"ticket": ((u32, u32, *(u16,) * 5, u32), answer_ticket),
     b"live": ((single, single), answer_live),
+    b"panel_temperature": ((i16,), answer_panel_temperature),
+    b"panel_pressure": ((u16,), answer_panel_pressure),
     b"spread": (List(u64, 20), answer_spread),
     b"write": ((u32, u8, u8, *(u16,) * 5, octets), answer_write),
     b"read": ((octets,), answer_read),

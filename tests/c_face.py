@@ -1,5 +1,5 @@
 """The C face: the header as C11 and C++17, its declarations against the Rattle source, every function through the linked archive
-beside the line program, and the example.
+beside the line program, every number of the panel beside the reference and back, and the example.
 
 Run: python3 tests/c_face.py [--lines N] [--seed S]     once `rt check endakuro` has built the line program
 """
@@ -13,8 +13,8 @@ from pathlib import Path
 
 import declarations
 from cases import cases
-from compare import BAD, REACHES, entry_of, outcome, short
-from programs import Stopped, answers_of, is_silent
+from compare import BAD, OK, REACHES, entry_of, outcome, short
+from programs import REFERENCE, Stopped, answers_of, is_silent
 
 ROOT = Path(__file__).resolve().parents[1]
 BUILT = ROOT / "target" / "c"
@@ -22,6 +22,12 @@ LINE_PROGRAM = [str(ROOT / "tests" / "endakuro")]
 # Entries of the line program that the C face has not.
 OTHERS = {"spread"}
 RUN = str(ROOT / "tests" / "c" / "run")
+
+# Every number for the panel, the next past each end of its range that the operand's type holds, and the type's own ends.
+TENTHS = (-32_768, *range(-201, 2_002), 32_767)
+PSI = (*range(1_502), 65_535)
+# 2,201 temperatures, each with 1,501 pressures.
+ALL_COME_BACK = b"3303701 pairs; differences 0"
 
 ONLY_HEADER = b"#include <endakuro.h>\n"
 STRICT = ["-Wall", "-Wextra", "-Wpedantic", "-Werror"]
@@ -59,26 +65,49 @@ def build(name, source):
     return [RUN, str(program)]
 
 
-def lines(count, seed):
+def differences(program, calls, named):
+    """How many of C's answers are not those of the program named."""
+    found = answers_of(program, b"\n".join(line for line, _ in calls) + b"\n")
+    different = [(line, a, b) for (line, a), b in zip(calls, found) if a != b]
+    for line, expected, other in different[:SHOWN]:
+        print(f"{short(line)}\n  {named:12} {short(expected)}\n  {'C':12} {short(other)}")
+    return len(different) + abs(len(calls) - len(found))
+
+
+def lines(program, count, seed):
     """The line program's answers are what C must give; a line that it calls bad calls no entry, and is left out, as is an
     entry that C has not."""
-    program = build("lines", "tests/c/lines.c")
     asked = [line for line in cases(seed, count) if not is_silent(line)]
     told = answers_of(LINE_PROGRAM, b"\n".join(asked) + b"\n")
     answered = [(line.removesuffix(b"\r"), answer) for line, answer in zip(asked, told, strict=True)]
     calls = [(line, answer) for line, answer in answered if outcome(answer) != BAD and entry_of(line) not in OTHERS]
-    found = answers_of(program, b"\n".join(line for line, _ in calls) + b"\n")
-    differences = [(line, a, b) for (line, a), b in zip(calls, found) if a != b]
-    for line, expected, other in differences[:SHOWN]:
-        print(f"{short(line)}\n  line program {short(expected)}\n  C            {short(other)}")
+    different = differences(program, calls, "line program")
     reached = Counter((entry_of(line), outcome(answer)) for line, answer in calls)
     wanted = {entry: answers for entry, answers in REACHES.items() if entry not in OTHERS}
     missing = [f"{entry} {what}" for entry, answers in wanted.items() for what in answers if not reached[entry, what]]
     if missing:
         print(f"never reached: {', '.join(missing)}")
-    missed = abs(len(calls) - len(found))
-    print(f"C beside the line program: {len(calls)} calls of {len(wanted)} entries; differences {len(differences) + missed}")
-    return not differences and not missed and not missing
+    print(f"C beside the line program: {len(calls)} calls of {len(wanted)} entries; differences {different}")
+    return not different and not missing
+
+
+def panel(program):
+    """The reference's bits are what C must show."""
+    asked = [*(b"panel_temperature %d" % tenths for tenths in TENTHS), *(b"panel_pressure %d" % psi for psi in PSI)]
+    told = answers_of(REFERENCE, b"\n".join(asked) + b"\n")
+    different = differences(program, list(zip(asked, told, strict=True)), "reference")
+    shown = sum(outcome(answer) == OK for answer in told)
+    print(f"the panel beside the reference: {len(asked)} calls, {shown} shown; differences {different}")
+    return not different
+
+
+def way_back():
+    """Every temperature shown with every pressure shown is read live as the two numbers that the panel was given."""
+    *apart, said = answers_of(build("way_back", "tests/c/way_back.c"), b"")
+    for pair in apart:
+        print(pair.decode())
+    print(f"the panel read live: {said.decode()}")
+    return said == ALL_COME_BACK
 
 
 def example():
@@ -93,11 +122,13 @@ def example():
 
 def main():
     options = argparse.ArgumentParser(description="Test the C face.")
-    options.add_argument("--lines", type=int, default=40_000)
+    options.add_argument("--lines", type=int, default=50_000)
     options.add_argument("--seed", type=int, default=2)
     chosen = options.parse_args()
     try:
-        held = [header(), lines(chosen.lines, chosen.seed), example()]
+        held = [header()]
+        program = build("lines", "tests/c/lines.c")
+        held += [lines(program, chosen.lines, chosen.seed), panel(program), way_back(), example()]
     except Stopped as stop:
         print(f"C face: stopped, {stop}")
         return 1

@@ -1,10 +1,11 @@
 """The comparison: the program under test and the reference answer the same lines.
 
-Run: python3 tests/compare.py --program CMD [--lines N] [--seed S]
+Run: python3 tests/compare.py --program CMD [--lines N] [--seed S] [--told DIR]
      python3 tests/compare.py --self          the reference beside itself: do the cases reach all?
+     python3 tests/compare.py --ahead DIR     the reference's answers alone, kept for --told DIR
 
-Ends with 0 exactly when no answer differs and every entry and number was reached, and each place
-where an equilibrium pressure can stand.
+Ends with 0 exactly when no answer differs and every entry and number was reached, each place where
+an equilibrium pressure can stand, and all that the panel can be shown.
 """
 
 import argparse
@@ -16,7 +17,9 @@ from itertools import islice
 from cases import cases
 from cases.grammar import NAMES
 from programs import REFERENCE, Stopped, command, is_silent, run
+from shown import Shown
 from standings import ACCEPTED, FAULTY, SIDES, standings
+from told import Told
 
 BATCH = 10_000
 SHOWN = 5
@@ -37,6 +40,8 @@ REACHES = {
     "passes": (OK, 1, 3, 5, 2, 6),
     "ticket": (OK, 10, 11),
     "live": (OK, 12, 13),
+    "panel_temperature": (OK, 13),
+    "panel_pressure": (OK, 13),
     "spread": (OK, 9),
     "write": (OK, 14, 22, 15),
     "read": (OK, 14, 15),
@@ -79,24 +84,33 @@ def short(octets):
     return text if len(text) <= WIDTH else f"{text[:WIDTH]}.. ({len(octets)} bytes)"
 
 
+def batches(stream):
+    """Lines by the batch, and as they are given: every second batch ends without its LF, half of
+    these with a CR."""
+    turn = 0
+    while lines := list(islice(stream, BATCH)):
+        if turn % 4 == 2:
+            lines[-1] += b"\r"
+        yield lines, b"\n".join(lines) + (b"\n" if turn % 2 else b"")
+        turn += 1
+
+
 class Comparison:
-    def __init__(self, program, keep):
-        self.programs = (REFERENCE, program)
+    def __init__(self, program, told, keep):
+        self.program = program
+        self.told = told
         self.keep = keep
         self.lines = 0
         self.reached = Counter()
         self.stood = Counter()
+        self.shown = Shown()
         self.differences = 0
 
-    def batch(self, lines):
-        # every second batch ends without its LF, half of these with a CR
-        turn = self.lines // BATCH % 4
-        if turn == 2:
-            lines[-1] += b"\r"
-        given = b"\n".join(lines) + (b"\n" if turn % 2 else b"")
+    def batch(self, lines, given):
         with ThreadPoolExecutor(2) as both:
-            ended = list(both.map(lambda program: run(program, given), self.programs))
-        (reference, reference_stopped), (tested, stopped) = ended
+            expected = both.submit(self.told.answers, given)
+            found = both.submit(run, self.program, given)
+        (reference, reference_stopped), (tested, stopped) = expected.result(), found.result()
         if reference_stopped:
             raise Stopped(reference_stopped)
         asked = [(at, line) for at, line in enumerate(lines) if not is_silent(line)]
@@ -119,6 +133,7 @@ class Comparison:
     def reach(self, line, answer):
         entry, what = entry_of(line), outcome(answer)
         self.reached[entry, what] += 1
+        self.shown.take(entry, line, answer)
         if what != BAD:
             for side, where in standings(entry, line, record_of(answer)):
                 self.stood[entry, side, where, what] += 1
@@ -152,6 +167,7 @@ class Comparison:
                     for where, what in wanted
                     if not self.stood[entry, side, where, what]
                 ]
+        missing += self.shown.missing()
         return missing
 
     def summary(self):
@@ -172,21 +188,33 @@ class Comparison:
         )
 
 
+def keep_ahead(asked, told):
+    told.folder.mkdir(exist_ok=True)
+    for _, given in asked:
+        told.keep(given)
+    return 0
+
+
 def main():
     options = argparse.ArgumentParser(description="Compare a program with the reference.")
     which = options.add_mutually_exclusive_group(required=True)
     which.add_argument("--program", type=command, help="the command of the program under test")
     which.add_argument("--self", action="store_true", help="the reference beside itself")
-    options.add_argument("--lines", type=int, default=100_000)
+    which.add_argument("--ahead", metavar="DIR", help="keep the reference's answers, for --told")
+    options.add_argument("--lines", type=int, default=110_000)
     options.add_argument("--seed", type=int, default=1)
+    options.add_argument("--told", metavar="DIR", help="where the reference's answers may be kept")
     options.add_argument("--keep", help="a file for the lines up to the first difference")
     chosen = options.parse_args()
 
-    comparison = Comparison(REFERENCE if chosen.self else chosen.program, chosen.keep)
-    stream = cases(chosen.seed, chosen.lines)
+    asked = batches(cases(chosen.seed, chosen.lines))
+    if chosen.ahead:
+        return keep_ahead(asked, Told(chosen.ahead))
+    program = REFERENCE if chosen.self else chosen.program
+    comparison = Comparison(program, Told(chosen.told), chosen.keep)
     try:
-        while lines := list(islice(stream, BATCH)):
-            comparison.batch(lines)
+        for lines, given in asked:
+            comparison.batch(lines, given)
             print(f"{comparison.lines} of {chosen.lines} lines", file=sys.stderr, flush=True)
     except Stopped as stop:
         print(f"compare: stopped, {stop}")

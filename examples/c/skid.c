@@ -51,6 +51,14 @@ static void frame(uint8_t *record, uint32_t pulses, const Liquid *liquid) {
     put(record + 22, liquid->equilibrium, 2);
 }
 
+// What the operator's panel takes of a liquid; were either number refused, it would keep what it shows.
+static void show(const Liquid *liquid) {
+    EndakuroPanel temperature = endakuro_panel_temperature((int16_t)liquid->temperature);
+    EndakuroPanel pressure = endakuro_panel_pressure(liquid->pressure);
+    if (temperature.number != 0 || pressure.number != 0) return;
+    printf("  the panel shows %.1f °F and %.0f psi\n", temperature.shown, pressure.shown);
+}
+
 // Proves a job and keeps its report in the 32 bytes; no input needs a check first.
 static void prove(uint32_t request, const uint8_t *runs, uint8_t *report) {
     EndakuroReport job = endakuro_prove(request, prover, K, HOUSE_LIMIT, runs, RUNS * RECORD, report, RECORD);
@@ -97,6 +105,7 @@ int main(void) {
     for (EndakuroTaken next = endakuro_take(&book); next.number == 0; next = endakuro_take(&book)) {
         const Liquid *liquid = next.shipper == 0 ? &gasoline : &propane;
         printf("the prover goes to shipper %u\n", next.shipper);
+        show(liquid);
         for (int i = 0; i < RUNS; i++) frame(runs + RECORD * i, pulses[i], liquid);
         if (next.request == 201) put(runs + 2 * RECORD + 8, 110, 2); // at the third run the prover's propane boils
         prove(next.request, runs, report);

@@ -33,6 +33,10 @@ static uint32_t number(void) {
     return (uint32_t)strtoul(next_word(), NULL, 10);
 }
 
+static int16_t signed_number(void) {
+    return (int16_t)strtol(next_word(), NULL, 10);
+}
+
 static float single(void) {
     uint32_t bits = (uint32_t)strtoul(next_word(), NULL, 16);
     float value;
@@ -122,7 +126,7 @@ static bool six_places(void) {
 }
 
 static void cts(void) {
-    int16_t t = (int16_t)strtol(next_word(), NULL, 10);
+    int16_t t = signed_number();
     read_metal();
     tell_factor(six_places() ? endakuro_cts_six(t, metal, coefficient) : endakuro_cts_four(t, metal, coefficient));
 }
@@ -222,6 +226,23 @@ static void live(void) {
     tell(r.number, r.record, VALUES(r.tenths, r.psi));
 }
 
+// The single by its bits: a refusal's are those of +0.
+static void tell_panel(EndakuroPanel r) {
+    uint32_t bits;
+    memcpy(&bits, &r.shown, sizeof bits);
+    require(r.number == 0 || bits == 0, "refused, with a value");
+    tell(r.number, r.record, NULL, 0);
+    if (r.number == 0) printf(" %08x", bits);
+}
+
+static void panel_temperature(void) {
+    tell_panel(endakuro_panel_temperature(signed_number()));
+}
+
+static void panel_pressure(void) {
+    tell_panel(endakuro_panel_pressure((uint16_t)number()));
+}
+
 static void tell_report(EndakuroReport r) {
     tell(r.number, r.record, VALUES(r.request, r.factor, r.first, r.runs, r.f1, r.f2, r.f3, r.f4, r.f5));
 }
@@ -297,10 +318,27 @@ static const struct {
     const char *name;
     void (*answer)(void);
 } entries[] = {
-    {"cts", cts},         {"cps", cps},           {"cpl", cpl},   {"prove", prove},   {"runs", runs},
-    {"run", run},         {"draw", draw},         {"fill", fill}, {"passes", passes}, {"ticket", ticket},
-    {"live", live},       {"write", write},       {"read", read}, {"request", request}, {"withdraw", withdraw},
-    {"take", take},       {"book", book},         {"load", load}, {"empty", empty},
+    {"cts", cts},
+    {"cps", cps},
+    {"cpl", cpl},
+    {"prove", prove},
+    {"runs", runs},
+    {"run", run},
+    {"draw", draw},
+    {"fill", fill},
+    {"passes", passes},
+    {"ticket", ticket},
+    {"live", live},
+    {"panel_temperature", panel_temperature},
+    {"panel_pressure", panel_pressure},
+    {"write", write},
+    {"read", read},
+    {"request", request},
+    {"withdraw", withdraw},
+    {"take", take},
+    {"book", book},
+    {"load", load},
+    {"empty", empty},
 };
 
 int main(void) {

@@ -3,11 +3,13 @@
 import random
 from itertools import chain, islice
 
-from . import books, draws, factors, grammar, provings, reports, singles, spreads, tickets
+from . import books, draws, factors, grammar, panels, provings, reports, singles, spreads, tickets
+
+AIMED = (factors, tickets, singles, panels, reports, provings, draws, spreads, books, grammar)
 
 
 def aimed(rng):
-    for part in (factors, tickets, singles, reports, provings, draws, spreads, books, grammar):
+    for part in AIMED:
         yield from part.aimed(rng)
 
 
@@ -18,6 +20,7 @@ def by_chance(rng):
         (20, draws),
         (10, tickets),
         (8, singles),
+        (2, panels),
         (6, reports),
         (6, spreads),
         (12, grammar),

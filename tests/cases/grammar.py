@@ -1,14 +1,14 @@
 """Cases of the grammar: operands at the ends of their types, malformed, missing and left over;
 damaged lines, wild bytes and long lines."""
 
-from . import books, draws, factors, provings, reports, singles, spreads, tickets
+from . import books, draws, factors, panels, provings, reports, singles, spreads, tickets
 from .shapes import Draw, Fill, Job, Prover, Report, Run, Ticket, line
 
 LONGEST = 524_288
 
 NAMES = (
-    "cts cps cpl prove runs run draw fill passes ticket live spread write read"
-    " request withdraw take book load empty"
+    "cts cps cpl prove runs run draw fill passes ticket live panel_temperature panel_pressure"
+    " spread write read request withdraw take book load empty"
 ).split()
 
 
@@ -30,6 +30,9 @@ def examples():
         draw.passes,
         Ticket().line,
         line("live", "42928000", "42200000"),
+        line("panel_temperature", 733),
+        line("panel_temperature", -5),
+        line("panel_pressure", 40),
         line("spread", 9964, 9963, 9962),
         report.write,
         report.read,
@@ -155,6 +158,9 @@ def names():
         for spoiled in (word[:-1], word + b"s", word.capitalize(), word + b"\x00", b"-" + word):
             yield spoiled
             yield spoiled + b" 1 2"
+    # a name of two words is one word of the line
+    yield from (b"panel 733", b"panel_ 733", b"panel temperature 733", b"panel-temperature 733")
+    yield from (b"panel_temperature_733", b"panel_temperature panel_temperature 733")
     yield from (b"help", b"quit", b"ok", b"bad line", b"refused 1 0", b"-", b"0", b"\xff", b"?")
 
 
@@ -200,6 +206,7 @@ def good_line(rng):
             draws.by_chance,
             tickets.by_chance,
             singles.by_chance,
+            panels.by_chance,
             reports.by_chance,
             spreads.by_chance,
             lambda of: of.choice(examples()),

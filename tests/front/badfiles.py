@@ -11,6 +11,7 @@ DRAW = (ROOT / "examples" / "water-draw.toml").read_text()
 # The file and the line before what is said; a fault of the whole file has no line.
 FAULT = re.compile(r"^\S+: (line \d+: )?")
 LIVE = "[live]\ntemperature = {}\npressure = 40\n"
+PANEL = "[panel]\ntemperature = {}\npressure = {}\n"
 
 
 def changed(old, new, text=GOOD):
@@ -118,6 +119,28 @@ CASES = (
     ("beyond every single", "live", LIVE.format("1e39"), "[live], temperature: is beyond every single"),
     ("bits too few", "live", LIVE.format('"4292"'),
      "[live], temperature: 4292 is no single: expected a number, or eight hex digits in quotes"),
+    ("hundredths for the panel", "panel", PANEL.format("73.25", "40"),
+     "[panel], temperature: 73.25 has more digits than the unit, 0.1 °F: expected at most 1 decimal, in °F"),
+    ("parts of a psi for the panel", "panel", PANEL.format("73.3", "40.5"),
+     "[panel], pressure: 40.5 has more digits than the unit, 1 psi: expected a whole number, in psi"),
+    ("a single's bits for the panel", "panel", PANEL.format('"4292999a"', "40"),
+     "[panel], temperature: 4292999a is not in °F: expected at most 1 decimal, in °F"),
+    ("true for the panel", "panel", PANEL.format("73.3", "true"),
+     "[panel], pressure: expected a number (a whole number, in psi), found true or false"),
+    ("no number for the panel", "panel", PANEL.format("nan", "40"), "[panel], temperature: nan is not a number"),
+    ("beyond the panel's line", "panel", PANEL.format("3276.8", "40"),
+     "[panel], temperature: 3,276.8 °F does not fit its place: expected -20.0 to 200.0 °F"),
+    ("below the panel's line", "panel", PANEL.format("73.3", "-1"),
+     "[panel], pressure: -1 psi does not fit its place: expected 0 to 1,500 psi"),
+    ("panel without a key", "panel", "[panel]\ntemperature = 73.3\n",
+     "[panel], pressure: missing: expected the pressure, 0 to 1,500 psi"),
+    ("panel without its table", "panel", "[heading]\n", "the table [panel] is missing"),
+    ("a panel's key above its table", "panel", "pressure = 40\n[panel]\ntemperature = 73.3\n",
+     "pressure: stands at the top of the file and belongs in [panel]"),
+    ("a panel's key slipped", "panel", PANEL.format("73.3", "40").replace("pressure", "presure"),
+     "[panel], presure: unknown key: did you mean pressure?"),
+    ("numbers for the panel as a reading", "live", PANEL.format("73.3", "40"),
+     "is a job of the kind panel: try ./endakuro panel"),
 )  # fmt: skip
 
 
@@ -142,7 +165,7 @@ def test():
         path.write_text("title = 3\n")
         status, out, err = run("rework", folder, "--csv", Path(folder) / "out.csv")
         tally.same(status, 2, "rework: status")
-        tally.holds(out, "holds no job: expected [[run]], [[fill]], [ticket] or [live]", "rework")
+        tally.holds(out, "holds no job: expected [[run]], [[fill]], [ticket], [live] or [panel]", "rework")
         path.unlink()
         for place in (folder, path):
             tally.same(run("rework", place)[0], 2, f"rework of {place}")

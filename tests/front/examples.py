@@ -29,7 +29,16 @@ SHOWN = {
     "ticket.toml": ("500.00 bbl", "0.9913", "495.65 bbl", "493.17 bbl"),
     "ticket-figure-7.toml": ("0.9898", "52,587.08 bbl", "52,508.20 bbl"),
     "ticket-propane.toml": ("115 psi", "1.0080", "0.9420", "9,420.00 bbl"),
-    "live.toml": ("73.3 °F, from 73.25 °F", "40 psi, from 40 psi"),
+    "live.toml": (
+        "73.3 °F, from 73.25 °F",
+        "40 psi, from 40 psi",
+        "Temperature               73.3000030517578125 °F (single 4292999a)",
+        "Pressure                  40 psi (single 42200000)",
+    ),
+    "panel.toml": (
+        "73.3 °F, shown as 73.3000030517578125 °F (single 4292999a)",
+        "40 psi, shown as 40 psi (single 42200000)",
+    ),
     "report-7.record": ("Meter factor              1.0002", "2 to 6 of 6", "Run factor, run 6         1.0005"),
     "book.txt": ("request 101 of shipper 0 is taken", "shipper 0: 102 103", "last served: shipper 0"),
 }
@@ -40,6 +49,7 @@ COMMANDS = {
     "ticket-figure-7.toml": "ticket",
     "ticket-propane.toml": "ticket",
     "live.toml": "live",
+    "panel.toml": "panel",
     "report-7.record": "read",
     "book.txt": "book",
 }
@@ -50,6 +60,7 @@ NUMBERS = {
     "draw": {1, 2, 3, 5, 6, 9},
     "ticket": {10, 11},
     "live": {12, 13},
+    "panel": {13},
     "read": {14, 15},
     "book": {20, 21, 22, 23, 24, 25, 26, 27},
 }

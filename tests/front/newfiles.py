@@ -13,7 +13,7 @@ from front import build, version
 
 def job_files(tally, folder):
     """A new job file of each kind runs as it is, and has every key with its range."""
-    for kind in ("prove", "draw", "ticket", "live"):
+    for kind in ("prove", "draw", "ticket", "live", "panel"):
         path = Path(folder) / f"{kind}.toml"
         status, text, err = called("new", kind)
         tally.same((status, err), (0, ""), f"new {kind}")

@@ -7,8 +7,9 @@ from pathlib import Path
 from harness import ROOT, Tally, called, run
 
 EXAMPLES = ROOT / "examples"
-JOBS = ("figure-5.toml", "water-draw.toml", "ticket.toml", "live.toml", "refusals/prove-09-runs-drift.toml")
-NAMES = ("prove-05-too-hot", "figure-5", "water-draw", "ticket", "live", "prove-09-runs-drift")
+JOBS = ("figure-5.toml", "water-draw.toml", "ticket.toml", "live.toml", "panel.toml")
+JOBS += ("refusals/prove-09-runs-drift.toml",)
+NAMES = ("prove-05-too-hot", "figure-5", "water-draw", "ticket", "live", "panel", "prove-09-runs-drift")
 WITH_PLOT = ("figure-5", "prove-09-runs-drift", "inner/figure-5")
 
 

@@ -13,8 +13,10 @@ from reports import widest
 
 EXAMPLES = ROOT / "examples"
 PAPERS = {"Letter": "(letter)", "A4": "(A4)"}
+# Examples that are called as their kind is.
+SHORT = ("ticket", "live", "panel")
 # So many jobs are printed on both.
-BOTH = 5
+BOTH = 6
 # Letters of 5 points, in millimetres, also where runs, fills and texts are at their most.
 LEAST = 1.76
 FIGURE = re.compile(r"\d[\d.,]*\d|\d")
@@ -43,7 +45,7 @@ def figures_of(text):
 
 def jobs(folder):
     """Jobs of each kind: plain, refused, the widest, the longest."""
-    for name in ("figure-5", "figure-6", "water-draw", "ticket", "live"):
+    for name in ("figure-5", "figure-6", "water-draw", *SHORT):
         yield EXAMPLES / f"{name}.toml"
     for name in ("prove-09-runs-drift", "draw-09-passes-drift"):
         yield EXAMPLES / "refusals" / f"{name}.toml"
@@ -58,7 +60,7 @@ def jobs(folder):
 
 
 def printed(tally, number, path, folder):
-    kind = path.stem if path.stem in ("ticket", "live") else "draw" if "[[fill]]" in path.read_text() else "prove"
+    kind = path.stem if path.stem in SHORT else "draw" if "[[fill]]" in path.read_text() else "prove"
     out = folder / "page.html"
     status, text, _ = called(kind, path, "--html", out, "--force")
     page = out.read_text()

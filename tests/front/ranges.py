@@ -11,7 +11,7 @@ from front import faults, fields, figures, jobs
 from front.program import Program, Refused
 from front.units import shown
 
-ASKED = {"prove": figures.prove, "draw": figures.draw, "ticket": figures.ticket}
+ASKED = {"prove": figures.prove, "draw": figures.draw, "ticket": figures.ticket, "panel": figures.panel}
 # The kind, its example, the table that holds a field, the fields, the number, the record and how it is called.
 PROVER = fields.named(fields.COEFFICIENT) | fields.PIPE
 PLACES = (
@@ -23,6 +23,7 @@ PLACES = (
     ("draw", "water-draw.toml", "prover", PROVER, 3, 0),
     ("draw", "water-draw.toml", "fill", {key: field for key, field in fields.FILL.items() if key != "pass"}, 5, 3),
     ("ticket", "ticket.toml", "ticket", fields.TICKET, 10, 0),
+    ("panel", "panel.toml", "panel", fields.PANEL, 13, 0),
 )
 
 

@@ -73,6 +73,8 @@ def figures_of(tally, rows):
          "out of": "3", "limit (%)": "0.02", "spread (%)": "0.012", "meter factor": ""}),
         ("ticket.toml", {"gross (bbl)": "495.65", "net (bbl)": "493.17", "meter factor": "1.0002", "request": ""}),
         ("live.toml", {"temperature (°F)": "73.3", "pressure (psi)": "40"}),
+        ("panel.toml", {"job": "panel", "outcome": "accepted", "temperature (°F)": "73.3", "pressure (psi)": "40"}),
+        ("panel-13-too-hot.toml", {"temperature (°F)": "200.1", "pressure (psi)": "40"}),
         ("bad.toml", {"outcome": "bad file", "job": "",
          "words": "line 1: run: expected [[run]], one table for each run, found a whole number; "
          "the table [meter] is missing; request: missing: expected the request number, 1 to 4,294,967,295; "

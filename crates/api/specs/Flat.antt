@@ -1,8 +1,10 @@
 -- Each answer as one plain struct: number 0 and record 0 (`at`) with the values when done; the paper's number and record, and all values
 -- zero, when refused.
+use mathlib.Core.Bool.{false}
 use mathlib.Core.List.{List}
 use Prim.Native.Nat.{ℕ, _*_}
 use lib.IntN.{pos}
+use lib.Ieee.{Float, fin}
 use Rattle.refusals.specs.Told.{Told, done, refused}
 use Rattle.exact.specs.declared.Quotient.{Quotient}
 use Rattle.exact.specs.declared.Quotient.the-variants.{Value, ZeroDivisor, TooLarge}
@@ -25,6 +27,7 @@ use Rattle.api.specs.declared.water.EndakuroPasses.{EndakuroPasses}
 use Rattle.api.specs.declared.water.EndakuroDraw.{EndakuroDraw}
 use Rattle.api.specs.declared.tickets.EndakuroVolumes.{EndakuroVolumes}
 use Rattle.api.specs.declared.readings.EndakuroLive.{EndakuroLive}
+use Rattle.api.specs.declared.panel.EndakuroPanel.{EndakuroPanel}
 use Rattle.api.specs.declared.books.EndakuroDone.{EndakuroDone}
 use Rattle.api.specs.declared.books.EndakuroTaken.{EndakuroTaken}
 
@@ -161,6 +164,16 @@ liveWith number at v = record { number = number; at = at; tenths = v .tenths; ps
 
 unfoldable pub flatLive : Told Values → EndakuroLive
 flatLive t = liveWith (numberIn t) (recordIn t) (valuesIn noReading t)
+
+-- what the panel shows
+abbrev pub nothingShown : Float
+nothingShown = fin false 0 (pos 0)
+
+abbrev pub panelWith : ℕ → ℕ → Float → EndakuroPanel
+panelWith number at x = record { number = number; at = at; shown = x }
+
+unfoldable pub flatPanel : Told Float → EndakuroPanel
+flatPanel t = panelWith (numberIn t) (recordIn t) (valuesIn nothingShown t)
 
 -- a request or a withdrawal: nothing but the number and the record
 unfoldable pub flatDone : Told Unit → EndakuroDone

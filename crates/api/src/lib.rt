@@ -5,6 +5,7 @@
 pub mod books;
 pub mod corrections;
 pub mod jobs;
+pub mod panel;
 pub mod quotients;
 pub mod readings;
 pub mod reports;

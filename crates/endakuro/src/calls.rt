@@ -12,6 +12,7 @@ use lines::answers::refuse;
 use lines::answers::say_ok;
 use live::Live;
 use live::Reading;
+use live::panel::Panel;
 use report::Answer;
 use report::Factors;
 use report::Report;
@@ -221,6 +222,27 @@ fn answer_live(line: &[u8], out: &mut [u8]) -> usize {
     }
 }
 
+fn say_shown(panel: Panel, out: &mut [u8]) -> usize {
+    match panel {
+        Panel::Shows(single) => {
+            let at = answers::say_done(out);
+            answers::add_single(single, out, at)
+        }
+        Panel::Refused(refusal) => refuse(refusal, out),
+    }
+}
+
+fn answer_panel_temperature(line: &[u8], out: &mut [u8]) -> usize {
+    say_shown(
+        live::panel::show_temperature(operands::i16_at(line, 1)),
+        out,
+    )
+}
+
+fn answer_panel_pressure(line: &[u8], out: &mut [u8]) -> usize {
+    say_shown(live::panel::show_pressure(operands::u16_at(line, 1)), out)
+}
+
 fn factors_at(line: &[u8]) -> Factors {
     Factors {
         one: operands::u16_at(line, 4),
@@ -316,6 +338,8 @@ fn answer_numbers(entry: usize, line: &[u8], out: &mut [u8]) -> usize {
         17 => answer_ticket(line, out),
         18 => answer_live(line, out),
         19 => answer_spread(line, out),
+        20 => answer_panel_temperature(line, out),
+        21 => answer_panel_pressure(line, out),
         _ => answers::say_bad(out),
     }
 }

@@ -5,3 +5,9 @@ pub mod Fields
 pub mod Laws
 pub mod Words
 pub mod Answers
+pub mod Spacing
+pub mod Distance
+pub mod Tenths
+pub mod Shown
+pub mod Units
+pub mod NearestSingle

@@ -20,7 +20,7 @@ use Rattle.live.specs.Live.{wholeOf}
 use Rattle.live.proofs.Sides.{size-sided, times-sided, times-opposite, add-reaching, add-passing}
 use Rattle.live.proofs.Rounding.{Nearest, away-sided, away-whole, away-nearest, away-only}
 
-sub-mul : (a b c : ℕ) → (a - b) * c ≡ a * c - b * c
+pub sub-mul : (a b c : ℕ) → (a - b) * c ≡ a * c - b * c
 sub-mul a b c = mul-comm (a - b) c ∙ mul-sub c a b ∙ (λ i. mul-comm c a i - mul-comm c b i)
 
 -- (a ± b) / d, rounded
@@ -62,7 +62,7 @@ whole-of-value o k (fin t m e) s a {c} h v =
     crossed : k * (m * up e) * c ≡ k * a * down e
     crossed = mul-assoc k (m * up e) c ∙ ap (λ (n : ℕ). k * n) (v .1) ∙ sym (mul-assoc k a (down e))
 
-denominator-pos : (x : Float) → 0 < denominator x
+pub denominator-pos : (x : Float) → 0 < denominator x
 unfolding denominator
 denominator-pos nan = lit< tt
 denominator-pos (inf s) = lit< tt

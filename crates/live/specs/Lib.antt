@@ -2,3 +2,4 @@ pub mod Exact
 pub mod Rounding
 pub mod Live
 pub mod Word
+pub mod Panel

@@ -45,6 +45,7 @@ use Rattle.ticket.specs.Ranges.{ticketOk}
 use Rattle.ticket.specs.Answers.{ticketOf}
 use Rattle.ticket.specs.declared.Ticket.{Ticket}
 use Rattle.live.specs.Live.{wholeOf, psiOk, liveOf}
+use Rattle.live.specs.Panel.{panelTemperatureOf, panelPressureOf}
 use Rattle.live.proofs.Answers.{singleFault, live-judged}
 use Rattle.octets.specs.Lists.{isOneOf}
 use Rattle.book.specs.Figures.{shippers, ceiling, waitingOf, has}
@@ -52,7 +53,7 @@ use Rattle.book.specs.Sound.{isSound}
 use Rattle.book.specs.Calls.{callFault, hasRoom, entryFault, requestFault, requestOf, afterRequest, withdrawalFault, withdrawalOf, afterWithdrawal, nextTurn, handedOut, takeOf, afterTake}
 use Rattle.book.specs.declared.Book.{Book}
 use lib.Ieee.Scale.{finite}
-use Rattle.promises.specs.Numbers.{settingNumbers, liquidNumbers, jobNumbers, provingNumbers, recordNumbers, runNumbers, drawNumbers, passesNumbers, fillNumbers, ticketNumbers, liveNumbers, requestNumbers, withdrawalNumbers, takeNumbers, readNumbers, writeNumbers}
+use Rattle.promises.specs.Numbers.{settingNumbers, liquidNumbers, jobNumbers, provingNumbers, recordNumbers, runNumbers, drawNumbers, passesNumbers, fillNumbers, ticketNumbers, liveNumbers, panelNumbers, requestNumbers, withdrawalNumbers, takeNumbers, readNumbers, writeNumbers}
 use Rattle.promises.specs.Ending.{markedOf, recordOk, refusalOk, Ends}
 use Rattle.promises.proofs.Endings.{Finds, by-demand, by-demandAt, by-orElse, by-scan, by-unless, by-judged, by-nine, as-told}
 
@@ -180,7 +181,7 @@ draw-ends prover s =
     let of = of-records (recordsIn 32 s) in
     by-unless (draw-finds prover s refl refl of of of) (by-nine (firstGroup 2 3 (volumesOf prover s)) _ refl)
 
--- ---- 'A ticket: 10, 11.' A live reading: 12, 13.
+-- ---- 'A ticket: 10, 11.' A live reading: 12, 13. The panel: 13.
 
 pub ticket-ends : (t : Ticket) → Ends ticketNumbers 0 0 (ticketOf t)
 unfolding ticketOf isOneOf markedOf recordOk refusalOk
@@ -194,6 +195,14 @@ pub live-ends : (temperature pressure : Float) → Ends liveNumbers 0 0 (liveOf 
 live-ends temperature pressure =
     as-told (live-judged temperature pressure)
     (by-judged _ (by-orElse (single-finds temperatureOk (wholeOf 0 10 temperature) temperature) (single-finds psiOk (wholeOf 0 1 pressure) pressure)))
+
+pub panel-temperature-ends : (tenths : ℤ) → Ends panelNumbers 0 0 (panelTemperatureOf tenths)
+unfolding panelTemperatureOf isOneOf markedOf recordOk refusalOk
+panel-temperature-ends tenths = by-judged _ (by-demand (temperatureOk tenths) 13 refl)
+
+pub panel-pressure-ends : (psi : ℕ) → Ends panelNumbers 0 0 (panelPressureOf psi)
+unfolding panelPressureOf isOneOf markedOf recordOk refusalOk
+panel-pressure-ends psi = by-judged _ (by-demand (pressureOk psi) 13 refl)
 
 -- ---- 'A book call, lowest number first: a request 20 to 25; a withdrawal 20, 21, 22, 26; a take 20, 27.'
 

@@ -1,6 +1,6 @@
 -- The paper's figures, each computed.
 use mathlib.Core.Path.{refl}
-use lib.Ieee.{ofBits}
+use lib.Ieee.{ofBits, ofInt, div}
 use Rattle.ranges.specs.Table.{temperatureOk, drawProverOk, drawMeasureOk, pressureOk, coefficientOk, modulusOk, diameterOk, wallOk, compressibilityOk, ctlOk, ctdwOk, runFactorOk, volumeOk, pulsesOk, kFactorOk, runsOk}
 use Rattle.ranges.specs.Table.{passesOk, fillsOk, certifiedOk, scaleOk, readingOk, meterFactorOk, sedimentOk}
 use Rattle.exact.specs.Rounding.{roundedDiv, rounded}
@@ -34,6 +34,7 @@ use Rattle.ticket.specs.Answers.{volumes, ticketOf}
 use Rattle.live.specs.Exact.{numerator, denominator}
 use Rattle.live.specs.Rounding.{awayFromZero}
 use Rattle.live.specs.Live.{wholeOf, singleOf, temperatureOf, psiOk, pressureOf, liveOf}
+use Rattle.live.specs.Panel.{cast, tenth, panelTemperatureOf, panelPressureOf}
 use Rattle.octets.specs.Lists.{isOneOf}
 use Rattle.book.specs.Line.{waiting, lineOf, areProper}
 use Rattle.book.specs.Figures.{shippers, overShippers, places, reserve, ceiling, commons, lineAt, waitingOf, has, beyond, commonsUsed, put, emptyBook}
@@ -43,7 +44,7 @@ use Rattle.promises.specs.Figures.{prover, run, propaneProver, propane, 
 
 -- both tables by reckoning alone: what their figures are made of, unfolded once
 reckoned : Figures × Besides
-unfolding prover run propaneProver propane fillBytes fill six passes drawn ticket reportOn temperatureOk drawProverOk drawMeasureOk pressureOk coefficientOk modulusOk diameterOk wallOk compressibilityOk ctlOk ctdwOk runFactorOk volumeOk pulsesOk kFactorOk runsOk passesOk fillsOk certifiedOk scaleOk readingOk meterFactorOk sedimentOk roundedDiv rounded sumOf numberAt byteAt wordAt longAt signedOf signedAt isZeroAt zeroBetween bytesOf recordsIn areRecords firstToLast placeIf meanOf listed smallest largest qualifies groupAt qualifiesAt firstGroup metalOk pipeOk proverOk liquidOk cplFrom ctsAt cpsAt cplAt combinedAt correctedAt cts cps cpl combined ctsOf cpsOf cplOf sideOk runOk indicatedBy steelCts steelCps correctedBy atProver atMeter figuresFrom runFigures givenFault figuresFault figuresTold workedOf listOf fieldsOf bytesOfReport factorsOk firstOk jobOk reportOk isReport reportOf writeOf readOf fiveAt fillFrom fillAt fillOk unnamedOk follows ruleOk adjusted measureCts proverCts ccts drawnBy fillFigures passCount isOf drawnFor passSum passPressure waterAt correctedVolume passVolume volumesOf barrelsOf baseFrom baseOf recordFault fillFault drawFault fillOf drawOf ticketOk indicated factor gross net volumes ticketOf numerator denominator awayFromZero wholeOf singleOf temperatureOf psiOk pressureOf liveOf ofBits waiting lineOf isOneOf areProper shippers overShippers places reserve ceiling commons lineAt waitingOf has beyond commonsUsed put emptyBook isLineSound isSoundAt areLinesSound isSound hasRoom callFault entryFault requestFault requestOf entered afterRequest sent
+unfolding prover run propaneProver propane fillBytes fill six passes drawn ticket reportOn temperatureOk drawProverOk drawMeasureOk pressureOk coefficientOk modulusOk diameterOk wallOk compressibilityOk ctlOk ctdwOk runFactorOk volumeOk pulsesOk kFactorOk runsOk passesOk fillsOk certifiedOk scaleOk readingOk meterFactorOk sedimentOk roundedDiv rounded sumOf numberAt byteAt wordAt longAt signedOf signedAt isZeroAt zeroBetween bytesOf recordsIn areRecords firstToLast placeIf meanOf listed smallest largest qualifies groupAt qualifiesAt firstGroup metalOk pipeOk proverOk liquidOk cplFrom ctsAt cpsAt cplAt combinedAt correctedAt cts cps cpl combined ctsOf cpsOf cplOf sideOk runOk indicatedBy steelCts steelCps correctedBy atProver atMeter figuresFrom runFigures givenFault figuresFault figuresTold workedOf listOf fieldsOf bytesOfReport factorsOk firstOk jobOk reportOk isReport reportOf writeOf readOf fiveAt fillFrom fillAt fillOk unnamedOk follows ruleOk adjusted measureCts proverCts ccts drawnBy fillFigures passCount isOf drawnFor passSum passPressure waterAt correctedVolume passVolume volumesOf barrelsOf baseFrom baseOf recordFault fillFault drawFault fillOf drawOf ticketOk indicated factor gross net volumes ticketOf numerator denominator awayFromZero wholeOf singleOf temperatureOf psiOk pressureOf liveOf ofBits cast tenth panelTemperatureOf panelPressureOf ofInt div waiting lineOf isOneOf areProper shippers overShippers places reserve ceiling commons lineAt waitingOf has beyond commonsUsed put emptyBook isLineSound isSoundAt areLinesSound isSound hasRoom callFault entryFault requestFault requestOf entered afterRequest sent
 reckoned = (
   record {
     cts-at-70 = refl;
@@ -97,6 +98,15 @@ reckoned = (
     minus-zero = refl;
     just-within = refl;
     temperature-first = refl;
+    shown = refl;
+    shown-below-zero = refl;
+    shown-half = refl;
+    shown-coldest = refl;
+    shown-hottest = refl;
+    too-cold = refl;
+    too-hot = refl;
+    shown-pressure = refl;
+    pressed-too-far = refl;
   },
 )
 

@@ -29,7 +29,10 @@ use Rattle.ticket.proofs.Laws.{told-one as ticket-one}
 use Rattle.live.specs.Live.{told as toldLive}
 use Rattle.live.specs.declared.Live.{Live}
 use Rattle.live.specs.declared.Live.the-variants as live
-use Rattle.live.proofs.Answers.{told-one as live-one}
+use Rattle.live.specs.Panel.{told as toldPanel}
+use Rattle.live.specs.declared.panel.Panel.{Panel}
+use Rattle.live.specs.declared.panel.Panel.the-variants as panel
+use Rattle.live.proofs.Answers.{told-one as live-one, panel-one}
 use Rattle.book.specs.Answers.{toldChange, toldTake}
 use Rattle.book.specs.declared.Change.{Change}
 use Rattle.book.specs.declared.Change.the-variants as change
@@ -39,7 +42,7 @@ use Rattle.book.proofs.Outcomes.{change-one, handout-one}
 use Rattle.api.specs.declared.quotients.EndakuroQuotient.{EndakuroQuotient}
 use Rattle.promises.specs.FlatEnding.{Flat, byKind, passesIn}
 use Rattle.promises.specs.Flattened.{LosesNothing, Flattened}
-use Rattle.promises.proofs.FlatEndings.{held, ReadBack, factor-back, report-back, run-back, fill-back, passes-back, volumes-back, draw-back, ticket-back, live-back, change-back, take-back, quotient-back}
+use Rattle.promises.proofs.FlatEndings.{held, ReadBack, factor-back, report-back, run-back, fill-back, passes-back, volumes-back, draw-back, ticket-back, live-back, panel-back, change-back, take-back, quotient-back}
 
 -- what is told is done, or refused with a number that is not 0
 abbrev Numbered : {A : Type 0} → Told A → Type 0
@@ -91,6 +94,11 @@ unfolding toldLive
 live-numbered (live.Whole tenths psi) = tt
 live-numbered (live.Refused why) = not-zero why
 
+panel-numbered : (a : Panel) → Numbered (toldPanel a)
+unfolding toldPanel
+panel-numbered (panel.Shows single) = tt
+panel-numbered (panel.Refused why) = not-zero why
+
 change-numbered : (a : Change) → Numbered (toldChange a)
 change-numbered change.Made = tt
 change-numbered (change.Refused why) = not-zero why
@@ -113,6 +121,7 @@ flattened =
       draw-loses-nothing = loses-nothing draw-back draw-one draw-numbered;
       ticket-loses-nothing = loses-nothing ticket-back ticket-one ticket-numbered;
       live-loses-nothing = loses-nothing live-back live-one live-numbered;
+      panel-loses-nothing = loses-nothing panel-back panel-one panel-numbered;
       change-loses-nothing = loses-nothing change-back change-one change-numbered;
       take-loses-nothing = loses-nothing take-back handout-one take-numbered;
       quotient-loses-nothing = λ a b is. sym (quotient-back a) ∙ ap (λ (f : EndakuroQuotient). byKind (f .kind) (f .value)) is ∙ quotient-back b;

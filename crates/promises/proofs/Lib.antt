@@ -12,6 +12,7 @@ pub mod Signed
 pub mod ZeroGage
 pub mod Formulas
 pub mod EntryFormulas
+pub mod Panel
 pub mod Jobs
 pub mod RoundTrips
 pub mod OneOutcome

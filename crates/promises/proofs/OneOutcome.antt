@@ -8,7 +8,7 @@ use Rattle.run.proofs.Laws.{told-one as worked-one}
 use Rattle.report.proofs.Laws.{told-one as report-one}
 use Rattle.draw.proofs.Outcome.{fill-one, passes-one, draw-one}
 use Rattle.ticket.proofs.Laws.{told-one as ticket-one}
-use Rattle.live.proofs.Answers.{told-one as live-one}
+use Rattle.live.proofs.Answers.{told-one as live-one, panel-one}
 use Rattle.book.proofs.Outcomes.{changed-one, handout-one}
 use Rattle.promises.specs.OneOutcome.{OneOutcome}
 
@@ -93,6 +93,8 @@ one-outcome =
       draw-draw-one = (λ _ _. tt, λ _ _ r q _ _ p p′. draw-one r q (same p p′));
       ticket-work-out-one = (λ _ _. tt, λ _ _ r q _ _ p p′. ticket-one r q (same p p′));
       live-convert-one = (λ _ _. tt, λ _ _ r q _ _ p p′. live-one r q (same p p′));
+      live-show-temperature-one = (λ _ _. tt, λ _ _ r q _ _ p p′. panel-one r q (same p p′));
+      live-show-pressure-one = (λ _ _. tt, λ _ _ r q _ _ p p′. panel-one r q (same p p′));
       book-empty-one = (λ _ _. tt, λ _ _ _ _ _ _. same);
       book-is-sound-one = (λ _ _. tt, λ _ _ _ _ _ _. same);
       book-request-one = (λ _ _. tt, λ _ _ r q _ _ p p′. changed-one r q (same (p .0) (p′ .0)) (same (p .1) (p′ .1)));

@@ -24,5 +24,7 @@ one-outcome-c =
       draw-one = (λ _ _. tt, λ _ _ _ _ _ _. same);
       ticket-one = (λ _ _. tt, λ _ _ _ _ _ _. same);
       live-one = (λ _ _. tt, λ _ _ _ _ _ _. same);
+      panel-temperature-one = (λ _ _. tt, λ _ _ _ _ _ _. same);
+      panel-pressure-one = (λ _ _. tt, λ _ _ _ _ _ _. same);
       empty-one = (λ _ _. tt, λ _ _ _ _ _ _. same);
     }

@@ -16,6 +16,7 @@ use Rattle.proving.specs.Job.{foundOf}
 use Rattle.draw.specs.Answers.{toldFill, toldPasses, toldDraw}
 use Rattle.ticket.specs.Answers.{told as toldTicket}
 use Rattle.live.specs.Live.{told as toldLive}
+use Rattle.live.specs.Panel.{told as toldPanel}
 use Rattle.book.specs.Answers.{toldChange, toldTake}
 use Rattle.factors.proofs.cts.Reads as cts
 use Rattle.factors.proofs.cps.Reads as cps
@@ -31,10 +32,12 @@ use Rattle.draw.proofs.passes.Reads as passes
 use Rattle.draw.proofs.draw.Reads as draw
 use Rattle.ticket.proofs.work_out.Reads as ticket
 use Rattle.live.proofs.convert.Reads as convert
+use Rattle.live.proofs.panel.show_temperature.Reads as show-temperature
+use Rattle.live.proofs.panel.show_pressure.Reads as show-pressure
 use Rattle.book.proofs.request.Reads as request
 use Rattle.book.proofs.withdraw.Reads as withdraw
 use Rattle.book.proofs.take.Reads as take
-use Rattle.promises.specs.Numbers.{settingNumbers, liquidNumbers, jobNumbers, recordNumbers, runNumbers, drawNumbers, passesNumbers, fillNumbers, ticketNumbers, liveNumbers, requestNumbers, withdrawalNumbers, takeNumbers, readNumbers, writeNumbers}
+use Rattle.promises.specs.Numbers.{settingNumbers, liquidNumbers, jobNumbers, recordNumbers, runNumbers, drawNumbers, passesNumbers, fillNumbers, ticketNumbers, liveNumbers, panelNumbers, requestNumbers, withdrawalNumbers, takeNumbers, readNumbers, writeNumbers}
 use Rattle.promises.specs.Arguments.{first, second, third, fourth, fifth, sixth}
 use Rattle.promises.specs.Ending.{Ends}
 
@@ -58,6 +61,8 @@ pub record Entries : Type 0 where
   pub draw-entry : (κ : _) (a : _) (r : _) (x : _) → draw.Post κ a r x → Ends drawNumbers 1 (recordsIn 32 (second a .now)) (toldDraw r)
   pub ticket-entry : (κ : _) (a : _) (r : _) (x : _) → ticket.Post κ a r x → Ends ticketNumbers 0 0 (toldTicket r)
   pub convert-entry : (κ : _) (a : _) (r : _) (x : _) → convert.Post κ a r x → Ends liveNumbers 0 0 (toldLive r)
+  pub show-temperature-entry : (κ : _) (a : _) (r : _) (x : _) → show-temperature.Post κ a r x → Ends panelNumbers 0 0 (toldPanel r)
+  pub show-pressure-entry : (κ : _) (a : _) (r : _) (x : _) → show-pressure.Post κ a r x → Ends panelNumbers 0 0 (toldPanel r)
   -- the book: a refusal hands back the book that came in
   pub request-entry : (κ : _) (a : _) (r : _) (x : _) → request.Post κ a r x → Ends requestNumbers 0 0 (toldChange (r .answer))
   pub request-leaves : (κ : _) (a : _) (r : _) (x : _) {number at : ℕ} → request.Post κ a r x → toldChange (r .answer) ≡ refused number at → r .book ≡ first a

@@ -18,11 +18,12 @@ use Rattle.draw.specs.Passes.{volumesOf}
 use Rattle.draw.specs.Answers.{fillOf, passesOf, drawOf}
 use Rattle.ticket.specs.Answers.{ticketOf}
 use Rattle.live.specs.Live.{liveOf}
+use Rattle.live.specs.Panel.{panelTemperatureOf, panelPressureOf}
 use Rattle.book.specs.Figures.{emptyBook}
 use Rattle.book.specs.Calls.{requestOf, withdrawalOf, takeOf}
 use Rattle.book.specs.declared.Book.{Book}
 use Rattle.api.specs.Given.{pipeBy, liquidBy, proverBy, factorsBy, ticketBy}
-use Rattle.api.specs.Flat.{noReport, noFigures, noFill, noBase, noVolumes, noReading, noHandout}
+use Rattle.api.specs.Flat.{noReport, noFigures, noFill, noBase, noVolumes, noReading, nothingShown, noHandout}
 use Rattle.api.specs.declared.books.EndakuroDone.{EndakuroDone}
 use Rattle.api.specs.declared.books.EndakuroTaken.{EndakuroTaken}
 use Rattle.api.proofs.corrections.endakuro_cts_four.Reads as cts-four
@@ -42,10 +43,12 @@ use Rattle.api.proofs.water.endakuro_passes.Reads as passes
 use Rattle.api.proofs.water.endakuro_draw.Reads as draw
 use Rattle.api.proofs.tickets.endakuro_ticket.Reads as ticket
 use Rattle.api.proofs.readings.endakuro_live.Reads as live
+use Rattle.api.proofs.panel.endakuro_panel_temperature.Reads as panel-temperature
+use Rattle.api.proofs.panel.endakuro_panel_pressure.Reads as panel-pressure
 use Rattle.api.proofs.books.endakuro_empty.Reads as empty
-use Rattle.promises.specs.Numbers.{settingNumbers, liquidNumbers, jobNumbers, recordNumbers, drawNumbers, passesNumbers, fillNumbers, ticketNumbers, liveNumbers, requestNumbers, withdrawalNumbers, takeNumbers, readNumbers, writeNumbers}
+use Rattle.promises.specs.Numbers.{settingNumbers, liquidNumbers, jobNumbers, recordNumbers, drawNumbers, passesNumbers, fillNumbers, ticketNumbers, liveNumbers, panelNumbers, requestNumbers, withdrawalNumbers, takeNumbers, readNumbers, writeNumbers}
 use Rattle.promises.specs.Arguments.{first, second, third, fourth, fifth, sixth}
-use Rattle.promises.specs.FlatEnding.{FlatEnds, LeavesAsFound, byKind, factorIn, reportIn, runIn, fillIn, passesIn, baseIn, volumesIn, readingIn, changeIn, handoutIn}
+use Rattle.promises.specs.FlatEnding.{FlatEnds, LeavesAsFound, byKind, factorIn, reportIn, runIn, fillIn, passesIn, baseIn, volumesIn, readingIn, shownIn, changeIn, handoutIn}
 use Rattle.promises.specs.InPlaceC.{Requests, Withdraws, Takes}
 
 pub record EntriesC : Type 0 where
@@ -75,6 +78,8 @@ pub record EntriesC : Type 0 where
   pub draw-entry : (κ : _) (a : _) (r : _) (x : _) → draw.Post κ a r x → FlatEnds drawNumbers 1 (recordsIn 32 (second a .now)) noBase (baseIn r) (drawOf (proverBy (first a)) (second a .now))
   pub ticket-entry : (κ : _) (a : _) (r : _) (x : _) → ticket.Post κ a r x → FlatEnds ticketNumbers 0 0 noVolumes (volumesIn r) (ticketOf (ticketBy (first a)))
   pub live-entry : (κ : _) (a : _) (r : _) (x : _) → live.Post κ a r x → FlatEnds liveNumbers 0 0 noReading (readingIn r) (liveOf (first a) (second a))
+  pub panel-temperature-entry : (κ : _) (a : _) (r : _) (x : _) → panel-temperature.Post κ a r x → FlatEnds panelNumbers 0 0 nothingShown (shownIn r) (panelTemperatureOf (first a))
+  pub panel-pressure-entry : (κ : _) (a : _) (r : _) (x : _) → panel-pressure.Post κ a r x → FlatEnds panelNumbers 0 0 nothingShown (shownIn r) (panelPressureOf (first a))
   -- the book: a refusal leaves the book that was found
   pub request-entry : (shipper number : ℕ) (found left : Book) (r : EndakuroDone) → Requests shipper number found left r → FlatEnds requestNumbers 0 0 tt (changeIn r) (requestOf found shipper number)
   pub request-leaves : (shipper number : ℕ) (found left : Book) (r : EndakuroDone) → Requests shipper number found left r → LeavesAsFound (changeIn r) left found

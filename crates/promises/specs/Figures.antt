@@ -26,6 +26,7 @@ use Rattle.draw.specs.Answers.{fillOf, drawOf}
 use Rattle.ticket.specs.Answers.{ticketOf}
 use Rattle.ticket.specs.declared.Ticket.{Ticket}
 use Rattle.live.specs.Live.{temperatureOf, liveOf}
+use Rattle.live.specs.Panel.{panelTemperatureOf, panelPressureOf}
 use Rattle.book.specs.Figures.{emptyBook}
 use Rattle.book.specs.Calls.{requestOf, afterRequest}
 use Rattle.book.specs.declared.Book.{Book}
@@ -185,3 +186,13 @@ pub record Besides : Type 0 where
   pub minus-zero : liveOf (ofBits binary32 0x8000_0000) (ofBits binary32 0x8000_0000) ≡ done (record { tenths = pos 0; psi = 0 })
   pub just-within : liveOf (ofBits binary32 0x4348_0a3d) (ofBits binary32 0) ≡ done (record { tenths = pos 2000; psi = 0 })
   pub temperature-first : liveOf (ofBits binary32 0x4348_199a) nan ≡ refused 13 0
+  -- what the panel shows: 73.3 °F; a tenth below zero; a half, which a single holds; the ends; one past each
+  pub shown : panelTemperatureOf (pos 733) ≡ done (ofBits binary32 0x4292_999a)
+  pub shown-below-zero : panelTemperatureOf (negℤ (pos 1)) ≡ done (ofBits binary32 0xbdcc_cccd)
+  pub shown-half : panelTemperatureOf (pos 735) ≡ done (ofBits binary32 0x4293_0000)
+  pub shown-coldest : panelTemperatureOf (negℤ (pos 200)) ≡ done (ofBits binary32 0xc1a0_0000)
+  pub shown-hottest : panelTemperatureOf (pos 2000) ≡ done (ofBits binary32 0x4348_0000)
+  pub too-cold : panelTemperatureOf (negℤ (pos 201)) ≡ refused 13 0
+  pub too-hot : panelTemperatureOf (pos 2001) ≡ refused 13 0
+  pub shown-pressure : panelPressureOf 1500 ≡ done (ofBits binary32 0x44bb_8000)
+  pub pressed-too-far : panelPressureOf 1501 ≡ refused 13 0

@@ -3,6 +3,7 @@
 use mathlib.Core.Path.{_≡_}
 use mathlib.Core.List.{List}
 use Prim.Native.Nat.{ℕ, zero, suc}
+use lib.Ieee.{Float}
 use Rattle.refusals.specs.Told.{Told, done, refused}
 use Rattle.exact.specs.declared.Quotient.{Quotient}
 use Rattle.exact.specs.declared.Quotient.the-variants.{Value, ZeroDivisor, TooLarge}
@@ -21,6 +22,7 @@ use Rattle.api.specs.declared.water.EndakuroPasses.{EndakuroPasses}
 use Rattle.api.specs.declared.water.EndakuroDraw.{EndakuroDraw}
 use Rattle.api.specs.declared.tickets.EndakuroVolumes.{EndakuroVolumes}
 use Rattle.api.specs.declared.readings.EndakuroLive.{EndakuroLive}
+use Rattle.api.specs.declared.panel.EndakuroPanel.{EndakuroPanel}
 use Rattle.api.specs.declared.books.EndakuroDone.{EndakuroDone}
 use Rattle.api.specs.declared.books.EndakuroTaken.{EndakuroTaken}
 use Rattle.promises.specs.Ending.{Ends}
@@ -93,6 +95,9 @@ volumesIn f = record { number = f .number; at = f .at; values = record { factor 
 
 abbrev pub readingIn : EndakuroLive → Flat Values
 readingIn f = record { number = f .number; at = f .at; values = record { tenths = f .tenths; psi = f .psi } }
+
+abbrev pub shownIn : EndakuroPanel → Flat Float
+shownIn f = record { number = f .number; at = f .at; values = f .shown }
 
 abbrev pub changeIn : EndakuroDone → Flat Unit
 changeIn f = record { number = f .number; at = f .at; values = tt }

@@ -11,8 +11,9 @@ use Rattle.draw.specs.Answers.{toldFill, toldPasses, toldDraw}
 use Rattle.draw.specs.declared.Counted.{Counted}
 use Rattle.ticket.specs.Answers.{told as toldTicket}
 use Rattle.live.specs.Live.{told as toldLive}
+use Rattle.live.specs.Panel.{told as toldPanel}
 use Rattle.book.specs.Answers.{toldChange, toldTake}
-use Rattle.api.specs.Flat.{flatFactor, flatReport, flatRun, flatFill, flatPasses, flatDraw, flatVolumes, flatLive, flatDone, flatTaken, flatQuotient}
+use Rattle.api.specs.Flat.{flatFactor, flatReport, flatRun, flatFill, flatPasses, flatDraw, flatVolumes, flatLive, flatPanel, flatDone, flatTaken, flatQuotient}
 
 abbrev pub LosesNothing : {A F R : Type 0} → (Told A → F) → (R → Told A) → Type 0
 LosesNothing {A} {F} {R} flat told = (a b : R) → flat (told a) ≡ flat (told b) → a ≡ b
@@ -27,6 +28,7 @@ pub record Flattened : Type 0 where
   pub draw-loses-nothing : LosesNothing flatDraw toldDraw
   pub ticket-loses-nothing : LosesNothing flatVolumes toldTicket
   pub live-loses-nothing : LosesNothing flatLive toldLive
+  pub panel-loses-nothing : LosesNothing flatPanel toldPanel
   pub change-loses-nothing : LosesNothing flatDone toldChange
   pub take-loses-nothing : LosesNothing flatTaken toldTake
   pub quotient-loses-nothing : (a b : Quotient) → flatQuotient a ≡ flatQuotient b → a ≡ b

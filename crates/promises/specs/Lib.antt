@@ -22,6 +22,7 @@ pub mod Signed
 pub mod ZeroGage
 pub mod Formulas
 pub mod EntryFormulas
+pub mod Panel
 pub mod FlatEnding
 pub mod EntriesC
 pub mod Flattened

@@ -35,12 +35,15 @@ passesNumbers = 1 ∷ 3 ∷ 5 ∷ 2 ∷ 6 ∷ []
 abbrev pub fillNumbers : List ℕ
 fillNumbers = 1 ∷ 3 ∷ 5 ∷ 2 ∷ []
 
--- 'A ticket: 10, 11.' A live reading: 12, 13
+-- 'A ticket: 10, 11.' A live reading: 12, 13. 'tenths or psi out of range are 13'
 abbrev pub ticketNumbers : List ℕ
 ticketNumbers = 10 ∷ 11 ∷ []
 
 abbrev pub liveNumbers : List ℕ
 liveNumbers = 12 ∷ 13 ∷ []
+
+abbrev pub panelNumbers : List ℕ
+panelNumbers = 13 ∷ []
 
 -- 'A book call, lowest number first: a request 20 to 25; a withdrawal 20, 21, 22, 26; a take 20, 27.'
 abbrev pub requestNumbers : List ℕ

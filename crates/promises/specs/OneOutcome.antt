@@ -71,6 +71,8 @@ use Rattle.draw.proofs.passes.Reads as draw-passes
 use Rattle.draw.proofs.draw.Reads as draw-draw
 use Rattle.ticket.proofs.work_out.Reads as ticket-work-out
 use Rattle.live.proofs.convert.Reads as live-convert
+use Rattle.live.proofs.panel.show_temperature.Reads as live-show-temperature
+use Rattle.live.proofs.panel.show_pressure.Reads as live-show-pressure
 use Rattle.book.proofs.Book.empty.Reads as book-empty
 use Rattle.book.proofs.Outcomes.{SoundPre, SoundPost}
 use Rattle.book.proofs.request.Reads as book-request
@@ -158,6 +160,8 @@ pub record OneOutcome : Type 0 where
   pub draw-draw-one : OneAnswer draw-draw.Pre draw-draw.Post
   pub ticket-work-out-one : OneAnswer ticket-work-out.Pre ticket-work-out.Post
   pub live-convert-one : OneAnswer live-convert.Pre live-convert.Post
+  pub live-show-temperature-one : OneAnswer live-show-temperature.Pre live-show-temperature.Post
+  pub live-show-pressure-one : OneAnswer live-show-pressure.Pre live-show-pressure.Post
   pub book-empty-one : OneAnswer book-empty.Pre book-empty.Post
   pub book-is-sound-one : OneAnswer SoundPre SoundPost
   pub book-request-one : OneAnswer book-request.Pre book-request.Post
