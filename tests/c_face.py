@@ -9,10 +9,12 @@ import shutil
 import subprocess
 import sys
 from collections import Counter
+from math import prod
 from pathlib import Path
 
 import declarations
-from cases import cases
+from cases import cases, shapes
+from cases.panels import SPANS, held, in_range
 from compare import BAD, OK, REACHES, entry_of, outcome, short
 from programs import REFERENCE, Stopped, answers_of, is_silent
 
@@ -22,12 +24,6 @@ LINE_PROGRAM = [str(ROOT / "tests" / "endakuro")]
 # Entries of the line program that the C face has not.
 OTHERS = {"spread"}
 RUN = str(ROOT / "tests" / "c" / "run")
-
-# Every number for the panel, the next past each end of its range that the operand's type holds, and the type's own ends.
-TENTHS = (-32_768, *range(-201, 2_002), 32_767)
-PSI = (*range(1_502), 65_535)
-# 2,201 temperatures, each with 1,501 pressures.
-ALL_COME_BACK = b"3303701 pairs; differences 0"
 
 ONLY_HEADER = b"#include <endakuro.h>\n"
 STRICT = ["-Wall", "-Wextra", "-Wpedantic", "-Werror"]
@@ -92,8 +88,8 @@ def lines(program, count, seed):
 
 
 def panel(program):
-    """The reference's bits are what C must show."""
-    asked = [*(b"panel_temperature %d" % tenths for tenths in TENTHS), *(b"panel_pressure %d" % psi for psi in PSI)]
+    """The reference's bits are what C must show of every number, and its refusal past each end that the type holds."""
+    asked = [shapes.line(entry, number) for entry in SPANS for number in held(entry)]
     told = answers_of(REFERENCE, b"\n".join(asked) + b"\n")
     different = differences(program, list(zip(asked, told, strict=True)), "reference")
     shown = sum(outcome(answer) == OK for answer in told)
@@ -107,7 +103,7 @@ def way_back():
     for pair in apart:
         print(pair.decode())
     print(f"the panel read live: {said.decode()}")
-    return said == ALL_COME_BACK
+    return said == b"%d pairs; differences 0" % prod(len(in_range(entry)) for entry in SPANS)
 
 
 def example():

@@ -11,8 +11,9 @@ import sys
 from fractions import Fraction
 from itertools import cycle
 
-from cases.panels import SPANS, in_range, neighbours, past_ends
+from cases.panels import SPANS, in_range, past_ends
 from cases.shapes import line
+from cases.singles import bits, neighbours
 from programs import REFERENCE, Stopped, answers_of, command
 from shown import wanted
 
@@ -22,14 +23,6 @@ SHOWN = re.compile(rb"ok ([0-9a-f]{8})")
 # 02: "the distance between 10x and n, times 131072, is at most 10"
 PARTS, MOST = 131072, 10
 PRINTED = 10
-
-
-def machine_single(number):
-    """The bits of the single that this machine takes for a number of its own. For n ÷ 10 it rounds
-    twice, to a double and then to a single. That is safe: where n ÷ 10 is no single, it is at least
-    a tenth of a single's last place away from the middle between two singles, and a double is off
-    by less than a hundred-millionth of that place."""
-    return struct.unpack(">I", struct.pack(">f", number))[0]
 
 
 def exact(single):
@@ -43,7 +36,10 @@ def is_finite(single):
 
 def single_faults(entry, number, single):
     """What is wrong with the single that shows a number."""
-    if single != machine_single(number / PER_UNIT[entry]):
+    # This machine rounds n ÷ 10 twice, to a double and then to a single. That is safe: where n ÷ 10
+    # is no single, it is at least a tenth of a single's last place away from the middle between two
+    # singles, and a double is off by less than a hundred-millionth of that place.
+    if single != bits(number / PER_UNIT[entry]):
         yield "is not this machine's single"
     if not all(map(is_finite, (single, *neighbours(single)))):
         yield "is not finite, or is the largest that is"

@@ -4,7 +4,7 @@ from itertools import cycle
 
 from . import ends
 from .shapes import line
-from .singles import SIGN, bits, reading
+from .singles import bits, neighbours, reading
 
 SPANS = {
     "panel_temperature": (ends.TEMPERATURE, ends.I16),
@@ -23,9 +23,11 @@ def past_ends(entry):
     return {low - 1, high + 1, least - 1, least, most, most + 1} - {*in_range(entry)}
 
 
-def neighbours(single):
-    """The singles next to one on either side, the smaller size first; 0 has one of each sign."""
-    return (single - 1, single + 1) if single & ~SIGN else (SIGN | 1, 1)
+def held(entry):
+    """Every number in range, and of those past its ends what the type holds."""
+    _, (least, most) = SPANS[entry]
+    past = (number for number in sorted(past_ends(entry)) if least <= number <= most)
+    return (*in_range(entry), *past)
 
 
 def aimed(rng):

@@ -21,10 +21,15 @@ TINY = (0, SIGN, 1, SIGN | 1, 0x007FFFFF, 0x00800000, SIGN | 0x00800000)
 HUGE = (0x7F7FFFFF, 0xFF7FFFFF, bits(1e30), bits(-1e30), bits(3e9))
 
 
+def neighbours(single):
+    """The singles next to one on either side, the smaller size first; 0 has one of each sign."""
+    return (single - 1, single + 1) if single & ~SIGN else (SIGN | 1, 1)
+
+
 def beside(number):
-    """The single nearest to a number and its two neighbours."""
+    """The single nearest to a number, its two neighbours, and -0 beside 0."""
     nearest = bits(number)
-    return (nearest - 1, nearest, nearest + 1) if nearest & ~SIGN else (0, 1, SIGN, SIGN | 1)
+    return (nearest, *neighbours(nearest), *(() if nearest & ~SIGN else (SIGN,)))
 
 
 def aimed(rng):

@@ -8,9 +8,8 @@ use lib.Ieee.{Float, nan, inf, fin, up, down}
 use lib.Ieee.Exact.{HasValue}
 use Rattle.live.specs.Exact.{sided, numerator, denominator}
 use Rattle.live.specs.Panel.{distance}
-use Rattle.live.proofs.Sides.{size-opposite, times-sided, apart}
+use Rattle.live.proofs.Sides.{size-opposite, times-sided, gap, apart}
 use Rattle.live.proofs.Value.{sub-mul}
-use Rattle.live.proofs.Spacing.{gap}
 
 -- a whole number's side of zero
 abbrev pub below : ℤ → Bool

@@ -16,8 +16,8 @@ use lib.Ieee.Order.{transfer}
 use lib.Ieee.Scale.{finite}
 use Rattle.live.specs.Exact.{denominator}
 use Rattle.live.specs.Panel.{tenth, distance}
+use Rattle.live.proofs.Sides.{gap}
 use Rattle.live.proofs.Value.{denominator-pos}
-use Rattle.live.proofs.Spacing.{gap}
 use Rattle.live.proofs.Distance.{below, apartOn, apart-scale, distance-of-value}
 use Rattle.live.proofs.Tenths.{dropped, count, shown, few-dropped, near, shown-value, shown-distance}
 use Rattle.live.proofs.Units.{InUnits, in-units, equal-singles}

@@ -26,6 +26,10 @@ unfolding temperatureOk
 temperature-size (pos n) is = leb-true n 2000 is
 temperature-size (negsuc n) is = omega (arith, leb-true n 199 (both-first _ _ is))
 
+pub pressure-size : (p : ℕ) → pressureOk p ≡ true → p ≤ 1500
+unfolding pressureOk
+pressure-size p is = within-high 0 1500 p is
+
 finite-of-value : (x : Float) (s : Bool) (a c : ℕ) → HasValue x s a c → finite x ≡ true
 finite-of-value nan s a c v = absurd v
 finite-of-value (inf t) s a c v = absurd v
@@ -71,8 +75,7 @@ module _ (z : ℤ) (ok : temperatureOk z ≡ true) where
 
 module _ (p : ℕ) (ok : pressureOk p ≡ true) where
   psi-value : HasValue (cast (pos p)) false p 1
-  unfolding pressureOk
-  psi-value = cast-value (pos p) (le-trans (within-high 0 1500 p ok) (lit≤ tt))
+  psi-value = cast-value (pos p) (le-trans (pressure-size p ok) (lit≤ tt))
 
   pub pressure-back : pressureOf (cast (pos p)) ≡ done (pos p)
   unfolding pressureOf psiOk

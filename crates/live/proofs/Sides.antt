@@ -50,7 +50,10 @@ apart-opposite n z d =
     ∙ size-opposite (n -ℤ z *ℤ pos d)
 
 -- how far two numbers are apart
-pub apart : (a b : ℕ) → natAbs (pos a -ℤ pos b) ≡ a - b + (b - a)
+abbrev pub gap : ℕ → ℕ → ℕ
+gap a b = a - b + (b - a)
+
+pub apart : (a b : ℕ) → natAbs (pos a -ℤ pos b) ≡ gap a b
 apart a b =
     by-cases (decLe b a)
     (λ r. ap natAbs (add-reaching a b r) ∙ omega arith)

@@ -2,7 +2,7 @@
 use mathlib.Core.Path.{_≡_, refl, sym, subst}
 use mathlib.Core.Logic.{_⊎_, inl, inr}
 use mathlib.Core.Bool.{not}
-use Prim.Native.Nat.{ℕ, zero, suc, _+_, _-_, _*_, _/_, _%_, _^_, _≤_, _<_, compare, Ordering, Ordering·lt, Ordering·eq, Ordering·gt}
+use Prim.Native.Nat.{ℕ, zero, suc, _+_, _*_, _/_, _%_, _^_, _≤_, _<_, compare, Ordering, Ordering·lt, Ordering·eq, Ordering·gt}
 use native.Mathlib.Nat.{le-trans, suc-mul, div-add-mod', mod-lt, div-div-eq-div-mul}
 use native.Mathlib.Omega.{arith}
 use lib.Dec.{T, isLe, isEq, leb→le, nleb→lt, eqb→eq}
@@ -10,10 +10,7 @@ use lib.Ieee.{nearest}
 use lib.Ieee.Fits.{nearest-le, kept-lt}
 use lib.Ieee.Nearest.{closest}
 use lib.Ieee.Order.{drop, kept}
-
--- how far two numbers are apart
-abbrev pub gap : ℕ → ℕ → ℕ
-gap a b = a - b + (b - a)
+use Rattle.live.proofs.Sides.{gap}
 
 even-or-next : (q : ℕ) → (q + q % 2 ≡ q) ⊎ (q + q % 2 ≡ suc q)
 even-or-next q = go (q % 2) refl

@@ -16,7 +16,8 @@ use lib.Ieee.Order.{drop, kept}
 use lib.Ieee.Scale.{round-same}
 use Rattle.live.specs.Exact.{denominator}
 use Rattle.live.specs.Panel.{cast, tenth, distance}
-use Rattle.live.proofs.Spacing.{gap, closest-near, kept-most}
+use Rattle.live.proofs.Sides.{gap}
+use Rattle.live.proofs.Spacing.{closest-near, kept-most}
 use Rattle.live.proofs.Distance.{below, apartOn, distance-of-value}
 
 -- the cast is exact

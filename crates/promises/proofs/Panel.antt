@@ -1,18 +1,17 @@
 -- The panel's promises: its answer tells its meaning, of which the bound, the nearest single and the way back are proved in `live`.
 use mathlib.Core.Path.{_≡_, refl, sym, ap, _∙_, subst}
 use mathlib.Core.Bool.{Bool, true, false}
-use Prim.Native.Nat.{ℕ, _*_, _≤_}
+use Prim.Native.Nat.{_*_, _≤_}
 use native.Mathlib.Nat.{le-trans}
 use native.Mathlib.Omega.{arith}
 use lib.Dec.{lit≤}
 use lib.IntN.{pos, _*ℤ_}
 use lib.Ieee.{Float}
 use Rattle.ranges.specs.Table.{temperatureOk, pressureOk}
-use Rattle.ranges.proofs.Laws.{within-high}
-use Rattle.refusals.specs.Told.{demand, judged}
+use Rattle.refusals.specs.Told.{done, demand, judged}
 use Rattle.refusals.proofs.Laws.{judged-fine, judged-fault, judged-was, judged-done, demand-holds, demand-fails, demand-was}
 use Rattle.live.specs.Exact.{numerator, denominator}
-use Rattle.live.specs.Live.{liveOf}
+use Rattle.live.specs.Live.{temperatureOf, pressureOf, liveOf}
 use Rattle.live.specs.Live as live
 use Rattle.live.specs.Panel.{cast, tenth, panelTemperatureOf, panelPressureOf, distance, told}
 use Rattle.live.specs.declared.Live.the-variants.{Whole}
@@ -20,7 +19,7 @@ use Rattle.live.specs.declared.panel.Panel.the-variants.{Shows}
 use Rattle.live.specs.declared.panel.Panel as declared
 use Rattle.live.proofs.Answers.{told-one, panel-one}
 use Rattle.live.proofs.Tenths.{distance-bound}
-use Rattle.live.proofs.Shown.{temperature-size, cast-exact, live-back}
+use Rattle.live.proofs.Shown.{temperature-size, pressure-size, cast-exact, temperature-back, pressure-back, live-back}
 use Rattle.live.proofs.NearestSingle.{shown-nearest, shown-only}
 use Rattle.api.specs.Flat.{flatPanel, flatLive}
 use Rattle.api.specs.declared.readings.EndakuroLive.{EndakuroLive}
@@ -46,10 +45,6 @@ unfolding flatPanel
 shown-flat true x is = (refl, refl)
 shown-flat false x is = absurd (omega (arith, is))
 
-pressure-size : (p : ℕ) → pressureOk p ≡ true → p ≤ 1500
-unfolding pressureOk
-pressure-size p is = within-high 0 1500 p is
-
 pub panel : Panel
 unfolding panelTemperatureOf panelPressureOf live.told flatLive
 panel =
@@ -69,6 +64,12 @@ panel =
       pressure-exact = λ κ a r x single p is.
           let by = shown-by r p is in
           subst (λ (s : Float). numerator s ≡ pos (first a) *ℤ pos (denominator s)) (by .1) (cast-exact (pos (first a)) (le-trans (pressure-size (first a) (by .0)) (lit≤ tt)));
+      temperature-returns = λ κ a r x single p is.
+          let by = shown-by r p is in
+          subst (λ (s : Float). temperatureOf s ≡ done (first a)) (by .1) (temperature-back (first a) (by .0));
+      pressure-returns = λ κ a r x single p is.
+          let by = shown-by r p is in
+          subst (λ (s : Float). pressureOf s ≡ done (pos (first a))) (by .1) (pressure-back (first a) (by .0));
       live-of-shown = λ κ a r x κ′ b q y κ″ c l z p p′ p″ is is′.
           let warm = shown-by r p is in
           let pressed = shown-by q p′ is′ in

@@ -9,8 +9,9 @@ use lib.IntN.{ℤ, pos, natAbs, _*ℤ_}
 use lib.Ieee.{Float, binary32, fits, eq}
 use lib.Ieee.Scale.{finite}
 use Rattle.ranges.specs.Table.{temperatureOk, pressureOk}
-use Rattle.refusals.specs.Told.{refused}
+use Rattle.refusals.specs.Told.{done, refused}
 use Rattle.live.specs.Exact.{numerator, denominator}
+use Rattle.live.specs.Live.{temperatureOf, pressureOf}
 use Rattle.live.specs.Panel.{cast, tenth, distance, told}
 use Rattle.live.specs.declared.Live.the-variants.{Whole}
 use Rattle.live.specs.declared.panel.Panel.the-variants.{Shows}
@@ -40,7 +41,10 @@ pub record Panel : Type 0 where
   pub within-bound : (κ : _) (a : _) (r : _) (x : _) (single : Float) → show-temperature.Post κ a r x → r ≡ Shows single → distance (first a) single * 131072 ≤ 10 * denominator single
   -- 'Pressures go out exactly'
   pub pressure-exact : (κ : _) (a : _) (r : _) (x : _) (single : Float) → show-pressure.Post κ a r x → r ≡ Shows single → numerator single ≡ pos (first a) *ℤ pos (denominator single)
-  -- 'Feeding x back as a live temperature must return n': `live` of what the panel shows is the reading that it was made from
+  -- 'Feeding x back as a live temperature must return n', whatever the pressure beside it; a pressure comes back likewise
+  pub temperature-returns : (κ : _) (a : _) (r : _) (x : _) (single : Float) → show-temperature.Post κ a r x → r ≡ Shows single → temperatureOf single ≡ done (first a)
+  pub pressure-returns : (κ : _) (a : _) (r : _) (x : _) (single : Float) → show-pressure.Post κ a r x → r ≡ Shows single → pressureOf single ≡ done (pos (first a))
+  -- as one sentence: `live` of what the panel shows is the reading that it was made from
   pub live-of-shown : (κ : _) (a : _) (r : _) (x : _) (κ′ : _) (b : _) (q : _) (y : _) (κ″ : _) (c : _) (l : _) (z : _)
       → show-temperature.Post κ a r x → show-pressure.Post κ′ b q y → convert.Post κ″ c l z
       → r ≡ Shows (first c .temperature) → q ≡ Shows (first c .pressure) → l ≡ Whole (first a) (first b)
