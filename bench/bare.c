@@ -3,6 +3,5 @@
 
 #define NAMED(function) bare_##function
 #define JUDGING false
-#define BIT_AT_A_TIME false
 
 #include "plain/all.h"

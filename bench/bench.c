@@ -7,7 +7,8 @@
 #include <stdlib.h>
 #include <time.h>
 
-static const Kind *const kinds[] = {&jobs, &draws, &tickets, &readings, &panel, &calls, &quotients};
+static const Kind *const kinds[] = {&jobs, &draws, &tickets, &readings, &panel, &calls, &quotients,
+                                    &long_quotients};
 
 #define KINDS (sizeof kinds / sizeof *kinds)
 
@@ -44,9 +45,9 @@ static void work_through_damaged(const Kind *kind, Chance *chance, long chunks, 
         kind->make(chance, CHUNK, true);
         kind->work(OURS, CHUNK);
         kind->work(PLAIN, CHUNK);
-        kind->work(BITWISE, CHUNK);
+        kind->work(PREVIOUS, CHUNK);
         measured->damaged += CHUNK;
-        measured->differences += kind->differences(PLAIN) + kind->differences(BITWISE);
+        measured->differences += kind->differences(PLAIN) + kind->differences(PREVIOUS);
     }
 }
 
@@ -61,7 +62,7 @@ static Measured measure(const Kind *kind, long share) {
 }
 
 static void print_head(void) {
-    static const char *const sides[] = {"plain C", "unchecked", "bitwise"};
+    static const char *const sides[] = {"plain C", "unchecked", "previous"};
     printf("%-20s %9s %9s", "", "count", "ours, s");
     for (int side = PLAIN; side < SIDES; side++) printf(" %12s %7s", sides[side - PLAIN], "ratio");
     putchar('\n');

@@ -52,9 +52,9 @@ typedef EndakuroDone Change(EndakuroBook *, uint8_t, uint32_t);
 typedef EndakuroTaken Take(EndakuroBook *);
 
 static void work(int side, int count) {
-    static Change *const request[SIDES] = {endakuro_request, plain_request, bare_request, bitwise_request};
-    static Change *const withdraw[SIDES] = {endakuro_withdraw, plain_withdraw, bare_withdraw, bitwise_withdraw};
-    static Take *const take[SIDES] = {endakuro_take, plain_take, bare_take, bitwise_take};
+    static Change *const request[SIDES] = {endakuro_request, plain_request, bare_request, previous_request};
+    static Change *const withdraw[SIDES] = {endakuro_withdraw, plain_withdraw, bare_withdraw, previous_withdraw};
+    static Take *const take[SIDES] = {endakuro_take, plain_take, bare_take, previous_take};
     EndakuroBook *book = &kept[side];
     for (int i = 0; i < count; i++) {
         const Input *input = &inputs[i];

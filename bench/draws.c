@@ -64,7 +64,7 @@ static void make(Chance *chance, int count, bool damaged) {
 
 static void work(int side, int count) {
     typedef EndakuroDraw Work(EndakuroProver, const uint8_t *, size_t);
-    static Work *const draw[SIDES] = {endakuro_draw, plain_draw, bare_draw, bitwise_draw};
+    static Work *const draw[SIDES] = {endakuro_draw, plain_draw, bare_draw, previous_draw};
     for (int i = 0; i < count; i++)
         answers[side][i] = draw[side](inputs[i].prover, inputs[i].records, inputs[i].size);
 }

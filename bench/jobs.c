@@ -104,7 +104,7 @@ static void make(Chance *chance, int count, bool damaged) {
 typedef EndakuroReport Prove(uint32_t, EndakuroProver, uint32_t, uint16_t, const uint8_t *, size_t, uint8_t *, size_t);
 
 static void work(int side, int count) {
-    static Prove *const prove[SIDES] = {endakuro_prove, plain_prove, bare_prove, bitwise_prove};
+    static Prove *const prove[SIDES] = {endakuro_prove, plain_prove, bare_prove, previous_prove};
     for (int i = 0; i < count; i++) {
         const Job *job = &inputs[i];
         Answer *answer = &answers[side][i];

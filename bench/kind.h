@@ -5,7 +5,7 @@
 
 enum { CHUNK = 1000 };
 
-enum { OURS, PLAIN, BARE, BITWISE, SIDES };
+enum { OURS, PLAIN, BARE, PREVIOUS, SIDES };
 
 typedef struct {
     const char *name;
@@ -19,4 +19,4 @@ typedef struct {
     long (*differences)(int side);
 } Kind;
 
-extern const Kind jobs, draws, tickets, readings, panel, calls, quotients;
+extern const Kind jobs, draws, tickets, readings, panel, calls, quotients, long_quotients;

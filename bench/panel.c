@@ -37,9 +37,9 @@ static void work(int side, int count) {
     typedef EndakuroPanel Temperature(int16_t);
     typedef EndakuroPanel Pressure(uint16_t);
     static Temperature *const temperature[SIDES] = {endakuro_panel_temperature, plain_panel_temperature,
-                                                    bare_panel_temperature, bitwise_panel_temperature};
+                                                    bare_panel_temperature, previous_panel_temperature};
     static Pressure *const pressure[SIDES] = {endakuro_panel_pressure, plain_panel_pressure, bare_panel_pressure,
-                                              bitwise_panel_pressure};
+                                              previous_panel_pressure};
     for (int i = 0; i < count; i++) {
         answers[side][i].temperature = temperature[side](inputs[i].tenths);
         answers[side][i].pressure = pressure[side](inputs[i].psi);

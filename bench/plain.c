@@ -3,6 +3,5 @@
 
 #define NAMED(function) plain_##function
 #define JUDGING true
-#define BIT_AT_A_TIME false
 
 #include "plain/all.h"

@@ -1,8 +1,8 @@
-// The same jobs in plain C by the paper's formulas, three times from one text (plain/):
-//   plain_    with all of the paper's checks
-//   bare_     with none, for input that is known to be good
-//   bitwise_  with all checks, and quotients a bit at a time, as the proved library's lowest layer divides
-// No code is shared with the library.
+// The same jobs in plain C by the paper's formulas, twice from one text (plain/), and by another build of the library:
+//   plain_   with all of the paper's checks
+//   bare_    with none, for input that is known to be good
+//   previous_  the functions of the archive that bench/run was given, or of the present one
+// Plain C shares no code with the library.
 #pragma once
 #include <endakuro.h>
 
@@ -21,4 +21,4 @@
 
 DECLARE(plain);
 DECLARE(bare);
-DECLARE(bitwise);
+DECLARE(previous);

@@ -33,7 +33,7 @@ static void make(Chance *chance, int count, bool damaged) {
 
 static void work(int side, int count) {
     typedef EndakuroLive Work(float, float);
-    static Work *const live[SIDES] = {endakuro_live, plain_live, bare_live, bitwise_live};
+    static Work *const live[SIDES] = {endakuro_live, plain_live, bare_live, previous_live};
     for (int i = 0; i < count; i++) answers[side][i] = live[side](inputs[i].temperature, inputs[i].pressure);
 }
 

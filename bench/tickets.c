@@ -36,7 +36,7 @@ static void make(Chance *chance, int count, bool damaged) {
 
 static void work(int side, int count) {
     typedef EndakuroVolumes Work(EndakuroTicket);
-    static Work *const ticket[SIDES] = {endakuro_ticket, plain_ticket, bare_ticket, bitwise_ticket};
+    static Work *const ticket[SIDES] = {endakuro_ticket, plain_ticket, bare_ticket, previous_ticket};
     for (int i = 0; i < count; i++) answers[side][i] = ticket[side](inputs[i]);
 }
 

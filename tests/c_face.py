@@ -1,5 +1,6 @@
 """The C face: the header as C11 and C++17, its declarations against the Rattle source, every function through the linked archive
-beside the line program, every number of the panel beside the reference and back, and the example.
+beside the line program, every number of the panel beside the reference and back, rounded quotients beside whole numbers of any length, and
+the example.
 
 Run: python3 tests/c_face.py [--lines N] [--seed S]     once `rt check endakuro` has built the line program
 """
@@ -13,6 +14,7 @@ from math import prod
 from pathlib import Path
 
 import declarations
+import ratios
 from cases import cases, shapes
 from cases.panels import SPANS, held, in_range
 from compare import BAD, OK, REACHES, entry_of, outcome, short
@@ -106,6 +108,20 @@ def way_back():
     return said == b"%d pairs; differences 0" % prod(len(in_range(entry)) for entry in SPANS)
 
 
+def quotients(seed):
+    """Rounded quotients, which no line has: every length of a divisor, every correction of a digit, every side of a half."""
+    asked = ratios.ratios(seed)
+    told = [b"%d %d" % ratios.answer(*ratio) for ratio in asked]
+    calls = [(b"%d %d %d" % ratio, answer) for ratio, answer in zip(asked, told, strict=True)]
+    different = differences(build("quotients", "tests/c/quotients.c"), calls, "whole numbers")
+    reached = {what for ratio in asked for what in ratios.reached(*ratio)}
+    missing = [what for what in ratios.wanted() if what not in reached]
+    if missing:
+        print(f"never reached: {missing}")
+    print(f"rounded quotients: {len(calls)} beside whole numbers of any length; differences {different}")
+    return not different and not missing
+
+
 def example():
     found = answers_of(build("skid", "examples/c/skid.c"), b"")
     expected = (ROOT / "examples/c/skid.txt").read_bytes().splitlines()
@@ -124,7 +140,7 @@ def main():
     try:
         held = [header()]
         program = build("lines", "tests/c/lines.c")
-        held += [lines(program, chosen.lines, chosen.seed), panel(program), way_back(), example()]
+        held += [lines(program, chosen.lines, chosen.seed), panel(program), way_back(), quotients(chosen.seed), example()]
     except Stopped as stop:
         print(f"C face: stopped, {stop}")
         return 1

@@ -3,4 +3,5 @@ pub mod Answers
 pub mod Words
 pub mod Gathering
 mod Columns
-mod Bits
+mod Digits
+mod Scaling

@@ -7,6 +7,10 @@ ghost use Rattle.exact.specs.Words.{wideOf, valueOf, sumOf};
 ghost use Rattle.exact.specs.Quotient.{quotientOf, valueOrZero};
 
 mod divider;
+mod multiplier;
+
+// A word is worked in two digits of 32 bits, as by hand.
+const BASE: u64 = 4294967296;
 
 // A number of two words: hi * 2^64 + lo.
 pub struct Wide {
@@ -22,21 +26,13 @@ pub enum Quotient {
     TooLarge,
 }
 
-// The whole product. Each number is cut into halves of 32 bits, and the four products of two
-// halves are added column by column with their carries, as by hand in base 2^32.
+// The whole product.
 pub fn product(a: u64, b: u64) -> Wide
     ensures { λ r. ⌜ r ≡ wideOf (a * b) ⌝ }
 {
-    let a0 = a % 4294967296;
-    let a1 = a / 4294967296;
-    let b0 = b % 4294967296;
-    let b1 = b / 4294967296;
-    let low = a0 * b0;
-    let middle = a1 * b0 + low / 4294967296;
-    let next = middle % 4294967296 + a0 * b1;
     Wide {
-        hi: a1 * b1 + middle / 4294967296 + next / 4294967296,
-        lo: next % 4294967296 * 4294967296 + low % 4294967296,
+        hi: multiplier::upper_word(a, b),
+        lo: multiplier::lower_word(a, b),
     }
 }
 
