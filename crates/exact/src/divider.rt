@@ -57,8 +57,8 @@ fn take_digit(rest: u64, digit: u64, d: u64) -> Divided
     correct(estimate, asked - kept, d)
 }
 
-// The same where the upper word is not zero: dividend and divisor are scaled, the lower word gives its two
-// digits, and the rest is scaled back.
+// (hi * 2^64 + lo) / d and its rest, digit by digit: dividend and divisor are scaled, the lower word gives its
+// two digits, and the rest is scaled back.
 fn divide_two_words(hi: u64, lo: u64, d: u64) -> Divided
     requires { ⌜ hi < d ⌝ }
     ensures { λ r. ⌜ (r .quotient * d + r .rest ≡ hi * 2 ^ 64 + lo) × (r .rest < d) ⌝ }
