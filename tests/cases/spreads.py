@@ -25,6 +25,7 @@ def aimed(rng):
     for _ in range(60):
         yield from halves(rng)
         yield from ends(rng)
+        yield two_words(rng)
     for high in (MOST - 1, MOST):
         for low in (1, 2, 99_999, PARTS, PARTS + 1, 2**32, 2**63, MOST - 1, MOST):
             yield spread(low, high)
@@ -56,6 +57,14 @@ def ends(rng):
     difference = ((2 * MOST + 1) * low - 1) // (2 * PARTS)
     for high in (low + difference, low + difference + 1):
         yield spread(low, high)
+
+
+def two_words(rng):
+    """A difference whose hundred thousand parts pass 64 bits, by a smallest that long division in digits of 32 bits estimates worst: of its
+    uppermost 32 bits the first alone is set, and those below are."""
+    below = rng.randint(4, 18)
+    low = 2 ** (31 + below) + 2**below - 1 - rng.randrange(2 ** (below - 3))
+    return spread(low, rng.randint(2**60, MOST))
 
 
 def by_chance(rng):
