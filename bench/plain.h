@@ -1,6 +1,6 @@
 // The same jobs in plain C by the paper's formulas, twice from one text (plain/), and by another build of the library:
-//   plain_   with all of the paper's checks
-//   bare_    with none, for input that is known to be good
+//   plain_     with all of the paper's checks
+//   bare_      with none, for input that is known to be good
 //   previous_  the functions of the archive that bench/run was given, or of the present one
 // Plain C shares no code with the library.
 #pragma once
