@@ -19,6 +19,7 @@ BENCH = ROOT / "target/c/bench"
 KINDS = (
     "jobs of twenty runs",
     "water draws",
+    "bidirectional draws",
     "tickets",
     "live readings",
     "panel numbers",

@@ -1,4 +1,4 @@
-// Water draws: three to ten passes of one to five fills.
+// Water draws: three to ten passes of one to five fills; of a bidirectional prover three to six round trips.
 #include "kind.h"
 #include "plain.h"
 #include "records.h"
@@ -41,7 +41,7 @@ static void damage(Chance *chance, Draw *draw) {
     }
 }
 
-static void make(Chance *chance, int count, bool damaged) {
+static void make_draws(Chance *chance, int count, bool damaged, bool in_pairs) {
     for (int i = 0; i < count; i++) {
         Draw *draw = &inputs[i];
         draw->prover = some_prover(chance);
@@ -50,7 +50,8 @@ static void make(Chance *chance, int count, bool damaged) {
                            .coefficient = between(chance, 150, 300),
                            .ctdw = between(chance, 999000, 1001000)};
         measure.scatter = measure.certified / between(chance, 2000, 20000);
-        int64_t passes = between(chance, 3, 10), fills = between(chance, 1, 5);
+        int64_t passes = in_pairs ? 2 * between(chance, 3, 6) : between(chance, 3, 10);
+        int64_t fills = between(chance, 1, 5);
         uint8_t *record = draw->records;
         for (int64_t pass = 1; pass <= passes; pass++) {
             int64_t pressure = between(chance, 20, 60);
@@ -62,11 +63,26 @@ static void make(Chance *chance, int count, bool damaged) {
     }
 }
 
+static void make(Chance *chance, int count, bool damaged) { make_draws(chance, count, damaged, false); }
+
+static void make_trips(Chance *chance, int count, bool damaged) { make_draws(chance, count, damaged, true); }
+
+typedef EndakuroDraw Draws(EndakuroProver, const uint8_t *, size_t);
+
+static void work_by(Draws *draw, int side, int count) {
+    for (int i = 0; i < count; i++) answers[side][i] = draw(inputs[i].prover, inputs[i].records, inputs[i].size);
+}
+
 static void work(int side, int count) {
-    typedef EndakuroDraw Work(EndakuroProver, const uint8_t *, size_t);
-    static Work *const draw[SIDES] = {endakuro_draw, plain_draw, bare_draw, previous_draw};
-    for (int i = 0; i < count; i++)
-        answers[side][i] = draw[side](inputs[i].prover, inputs[i].records, inputs[i].size);
+    static Draws *const draw[SIDES] = {endakuro_draw, plain_draw, bare_draw, previous_draw};
+    work_by(draw[side], side, count);
+}
+
+// Beside an archive that has no such function the library runs beside itself.
+static void work_trips(int side, int count) {
+    Draws *previous = previous_bidirectional ? previous_bidirectional : endakuro_bidirectional;
+    Draws *const draw[SIDES] = {endakuro_bidirectional, plain_bidirectional, bare_bidirectional, previous};
+    work_by(draw[side], side, count);
 }
 
 static bool same(const EndakuroDraw *a, const EndakuroDraw *b) {
@@ -81,3 +97,4 @@ static long differences(int side) {
 }
 
 const Kind draws = {"water draws", 100000, make, work, differences};
+const Kind round_trips = {"bidirectional draws", 100000, make_trips, work_trips, differences};

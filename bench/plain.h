@@ -10,6 +10,7 @@
     EndakuroReport side##_prove(uint32_t request, EndakuroProver prover, uint32_t k, uint16_t limit,                   \
                                 const uint8_t *records, size_t size, uint8_t *buffer, size_t room);                    \
     EndakuroDraw side##_draw(EndakuroProver prover, const uint8_t *records, size_t size);                              \
+    EndakuroDraw side##_bidirectional(EndakuroProver prover, const uint8_t *records, size_t size);                     \
     EndakuroVolumes side##_ticket(EndakuroTicket ticket);                                                              \
     EndakuroLive side##_live(float temperature, float pressure);                                                       \
     EndakuroPanel side##_panel_temperature(int16_t tenths);                                                            \
@@ -22,3 +23,6 @@
 DECLARE(plain);
 DECLARE(bare);
 DECLARE(previous);
+
+// An archive of before bidirectional provers has none.
+#pragma weak previous_bidirectional

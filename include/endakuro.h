@@ -45,6 +45,7 @@
  *   meter reading                      0.01 barrel                0 to 99,999,999
  *   sediment and water S               0.001 %                    0 to 100000
  *   runs in a job, passes and fills    one                        5 to 20, 3 to 20 and 3 to 60
+ *   passes of a bidirectional prover   one                        6 to 20, an even number
  *
  * Every result is rounded once, to the unit that is named with it, halves upward. A live reading and a number for
  * the panel are rounded once too, each as it says.
@@ -207,19 +208,31 @@ typedef struct EndakuroDraw {
     uint8_t first;    /* first pass used, from 1 */
 } EndakuroDraw;
 
-/* A draw: 3 to 60 fill records in 3 to 20 passes. The first three consecutive passes that repeat within 2 in
- * 10,000 decide. Refuses 1, 3; then, records first to last, 5, 2 and 6; then 1 for the passes, and 9. */
+/* A draw of a unidirectional prover: 3 to 60 fill records in 3 to 20 passes. The first three consecutive passes
+ * that repeat within 2 in 10,000 decide. Refuses 1, 3; then, records first to last, 5, 2 and 6; then 1 for the
+ * passes, and 9. */
 EndakuroDraw endakuro_draw(EndakuroProver prover, const uint8_t *records, size_t records_length);
 
+/* A draw of a bidirectional prover: its passes come in pairs, odd out and even back, and a round trip is the sum of
+ * its two passes, each rounded. The first three consecutive round trips that repeat within 2 in 10,000 decide; the
+ * base volume is that of a round trip, and the first pass used is the out pass of the first of them. The two passes
+ * of a pair may differ in pressure. Refuses as endakuro_draw, with 1 for an odd count of passes and for a count
+ * outside 6 to 20. */
+EndakuroDraw endakuro_bidirectional(EndakuroProver prover, const uint8_t *records, size_t records_length);
+
+/* The volumes of passes, or of round trips. */
 typedef struct EndakuroPasses {
     uint16_t number;
     uint16_t record;
-    uint8_t count;        /* passes */
-    uint64_t volumes[20]; /* of each pass, in order; zeros after the last */
+    uint8_t count;        /* passes or round trips */
+    uint64_t volumes[20]; /* of each, in order; zeros after the last */
 } EndakuroPasses;
 
-/* The volumes of all passes of a draw, of which three need not repeat. Refuses as a draw, but for 9. */
+/* The volumes of all passes of a draw, of which three need not repeat. Refuses as endakuro_draw, but for 9. */
 EndakuroPasses endakuro_passes(EndakuroProver prover, const uint8_t *records, size_t records_length);
+
+/* The volumes of all round trips of a bidirectional prover. Refuses as endakuro_bidirectional, but for 9. */
+EndakuroPasses endakuro_trips(EndakuroProver prover, const uint8_t *records, size_t records_length);
 
 /* One fill's figures. */
 typedef struct EndakuroFill {

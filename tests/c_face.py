@@ -1,6 +1,6 @@
 """The C face: the header as C11 and C++17, its declarations against the Rattle source, every function through the linked archive
 beside the line program, every number of the panel beside the reference and back, rounded quotients beside whole numbers of any length, and
-the example.
+the examples.
 
 Run: python3 tests/c_face.py [--lines N] [--seed S]     once `rt check endakuro` has built the line program
 """
@@ -26,6 +26,7 @@ LINE_PROGRAM = [str(ROOT / "tests" / "endakuro")]
 # Entries of the line program that the C face has not.
 OTHERS = {"spread"}
 RUN = str(ROOT / "tests" / "c" / "run")
+EXAMPLES = ("skid", "round_trips")
 
 ONLY_HEADER = b"#include <endakuro.h>\n"
 STRICT = ["-Wall", "-Wextra", "-Wpedantic", "-Werror"]
@@ -122,13 +123,13 @@ def quotients(seed):
     return not different and not missing
 
 
-def example():
-    found = answers_of(build("skid", "examples/c/skid.c"), b"")
-    expected = (ROOT / "examples/c/skid.txt").read_bytes().splitlines()
+def example(name):
+    found = answers_of(build(name, f"examples/c/{name}.c"), b"")
+    expected = (ROOT / f"examples/c/{name}.txt").read_bytes().splitlines()
     same = found == expected
     if not same:
         print(b"\n".join(found).decode())
-    print(f"examples/c/skid.c: {len(found)} lines, {'as' if same else 'NOT as'} skid.txt has them")
+    print(f"examples/c/{name}.c: {len(found)} lines, {'as' if same else 'NOT as'} {name}.txt has them")
     return same
 
 
@@ -140,7 +141,8 @@ def main():
     try:
         held = [header()]
         program = build("lines", "tests/c/lines.c")
-        held += [lines(program, chosen.lines, chosen.seed), panel(program), way_back(), quotients(chosen.seed), example()]
+        held += [lines(program, chosen.lines, chosen.seed), panel(program), way_back(), quotients(chosen.seed)]
+        held += [example(name) for name in EXAMPLES]
     except Stopped as stop:
         print(f"C face: stopped, {stop}")
         return 1

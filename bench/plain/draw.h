@@ -1,4 +1,4 @@
-// The water draw (01, 'Water draw'): factors at 6 places, volumes in 0.01 cubic inch.
+// The water draw (01, 'Water draw'; 02, 'Bidirectional provers'): factors at 6 places, volumes in 0.01 cubic inch.
 #include "factors.h"
 #include "group.h"
 #include "records.h"
@@ -45,7 +45,17 @@ static EndakuroDraw no_draw(uint16_t number, uint16_t record) {
     return (EndakuroDraw){.number = number, .record = record};
 }
 
-EndakuroDraw NAMED(draw)(EndakuroProver prover, const uint8_t *records, size_t size) {
+// Round trips: each odd pass with the even one after it.
+static int pair_up(uint64_t *volumes, int passes) {
+    for (int trip = 0; trip < passes / 2; trip++) volumes[trip] = volumes[2 * trip] + volumes[2 * trip + 1];
+    return passes / 2;
+}
+
+static bool are_passes(int passes, bool in_pairs) {
+    return in_pairs ? passes % 2 == 0 && within(passes, 6, 20) : within(passes, 3, 20);
+}
+
+static inline EndakuroDraw draw_water(EndakuroProver prover, const uint8_t *records, size_t size, bool in_pairs) {
     uint16_t gc = coefficient_of(prover.metal, prover.coefficient);
     if (JUDGING) {
         if (size % RECORD != 0 || !within((int64_t)(size / RECORD), 3, 60)) return no_draw(1, 0);
@@ -62,7 +72,7 @@ EndakuroDraw NAMED(draw)(EndakuroProver prover, const uint8_t *records, size_t s
         if (!keeps_rule(&fills[i], i ? &fills[i - 1] : NULL)) return no_draw(6, (uint16_t)(i + 1));
     }
     int passes = fills[count - 1].pass;
-    if (JUDGING && !within(passes, 3, 20)) return no_draw(1, 0);
+    if (JUDGING && !are_passes(passes, in_pairs)) return no_draw(1, 0);
 
     uint64_t volumes[20];
     int i = 0;
@@ -73,8 +83,17 @@ EndakuroDraw NAMED(draw)(EndakuroProver prover, const uint8_t *records, size_t s
         uint64_t correction = cps_of(p, &prover, SIX_PLACES) * cpl_of(p, WATER, WATER_PE, SIX_PLACES);
         volumes[pass] = rounded((wide)sum * 1000000000000, correction);
     }
-    int at = first_group(volumes, passes, 3, 2);
+    int at = first_group(volumes, in_pairs ? pair_up(volumes, passes) : passes, 3, 2);
     if (at < 0) return no_draw(9, 0);
     uint64_t base = mean(volumes + at, 3);
-    return (EndakuroDraw){.base = base, .barrels = rounded((wide)base * 10000, 970200), .first = (uint8_t)(at + 1)};
+    uint8_t first = (uint8_t)(in_pairs ? 2 * at + 1 : at + 1);
+    return (EndakuroDraw){.base = base, .barrels = rounded((wide)base * 10000, 970200), .first = first};
+}
+
+EndakuroDraw NAMED(draw)(EndakuroProver prover, const uint8_t *records, size_t size) {
+    return draw_water(prover, records, size, false);
+}
+
+EndakuroDraw NAMED(bidirectional)(EndakuroProver prover, const uint8_t *records, size_t size) {
+    return draw_water(prover, records, size, true);
 }

@@ -179,12 +179,18 @@ static void run(void) {
                 (int64_t)r.factor));
 }
 
-static void draw(void) {
+typedef EndakuroDraw (*DrawWater)(EndakuroProver, const uint8_t *, size_t);
+
+static void draw_by(DrawWater by) {
     EndakuroProver prover = settings();
     lend(&records);
-    EndakuroDraw r = endakuro_draw(prover, lent_bytes(&records), records.length);
+    EndakuroDraw r = by(prover, lent_bytes(&records), records.length);
     tell(r.number, r.record, VALUES((int64_t)r.base, (int64_t)r.barrels, r.first));
 }
+
+static void draw(void) { draw_by(endakuro_draw); }
+
+static void bidirectional(void) { draw_by(endakuro_bidirectional); }
 
 static void fill(void) {
     read_metal();
@@ -194,17 +200,23 @@ static void fill(void) {
          VALUES((int64_t)r.adjusted, (int64_t)r.measure, (int64_t)r.prover, (int64_t)r.ccts, (int64_t)r.drawn));
 }
 
-static void passes(void) {
+typedef EndakuroPasses (*ListVolumes)(EndakuroProver, const uint8_t *, size_t);
+
+static void list(ListVolumes of) {
     EndakuroProver prover = settings();
     lend(&records);
-    EndakuroPasses r = endakuro_passes(prover, lent_bytes(&records), records.length);
+    EndakuroPasses r = of(prover, lent_bytes(&records), records.length);
     int64_t values[21] = {r.count};
     for (int i = 0; i < 20; i++) {
         values[i + 1] = (int64_t)r.volumes[i];
-        require(i < r.count || r.volumes[i] == 0, "a volume after the last pass");
+        require(i < r.count || r.volumes[i] == 0, "a volume after the last");
     }
     tell(r.number, r.record, values, 1 + r.count);
 }
+
+static void passes(void) { list(endakuro_passes); }
+
+static void trips(void) { list(endakuro_trips); }
 
 static void ticket(void) {
     EndakuroTicket t;
@@ -325,8 +337,10 @@ static const struct {
     {"runs", runs},
     {"run", run},
     {"draw", draw},
+    {"bidirectional", bidirectional},
     {"fill", fill},
     {"passes", passes},
+    {"trips", trips},
     {"ticket", ticket},
     {"live", live},
     {"panel_temperature", panel_temperature},

@@ -128,7 +128,7 @@ fillWith number at figures =
 unfoldable pub flatFill : Told FillFigures → EndakuroFill
 flatFill t = fillWith (numberIn t) (recordIn t) (valuesIn noFill t)
 
--- the count of passes, and their volumes, which are all zero on refusal
+-- the count of passes or of round trips, and their volumes, which are all zero on refusal
 abbrev pub passesWith : ℕ → ℕ → ℕ → List ℕ → EndakuroPasses
 passesWith number at count volumes = record { number = number; at = at; count = count; volumes = volumes }
 

@@ -1,6 +1,8 @@
-// 01, 'Water draw', for C. Volumes are in 0.01 cubic inch, factors have 6 places.
+// 01, 'Water draw', and 02, 'Bidirectional provers', for C. Volumes are in 0.01 cubic inch, factors have
+// 6 places.
 ghost use mathlib.Core.Path.{_≡_};
-ghost use Rattle.draw.specs.Answers.{toldFill, toldPasses, toldDraw, fillOf, passesOf, heldFor, drawOf};
+ghost use Rattle.draw.specs.Answers.{toldFill, toldCount, toldDraw, fillOf, countOf, heldFor, drawOf};
+ghost use Rattle.draw.specs.declared.Profile.the-variants.{Unidirectional, Bidirectional};
 ghost use Rattle.factors.specs.Metal.{metalBy};
 ghost use Rattle.api.specs.Given.{proverBy};
 ghost use Rattle.api.specs.Flat.{flatFill, flatPasses, flatDraw};
@@ -8,6 +10,7 @@ use crate::settings;
 use crate::settings::EndakuroProver;
 use draw::Counted;
 use draw::FillAnswer;
+use draw::Profile;
 use draw::WaterDraw;
 
 // The adjusted measure, CTS of the measure and of the prover, CCTS, and the volume drawn.
@@ -22,7 +25,7 @@ pub struct EndakuroFill {
     pub drawn: u64,
 }
 
-// The passes' volumes in their order, and zeros after the last.
+// The volumes of passes, or of round trips, in their order, and zeros after the last.
 #[repr(C)]
 pub struct EndakuroPasses {
     pub number: u16,
@@ -79,10 +82,10 @@ pub extern "C" fn endakuro_fill(metal: u8, coefficient: u16, bytes: &[u8]) -> En
 }
 
 fn flatten_passes(answer: Counted, volumes: [u64; 20]) -> EndakuroPasses
-    ensures { λ r. ⌜ r ≡ flatPasses (toldPasses answer) volumes ⌝ }
+    ensures { λ r. ⌜ r ≡ flatPasses (toldCount answer) volumes ⌝ }
 {
     match answer {
-        Counted::Passes(count) => EndakuroPasses {
+        Counted::Volumes(count) => EndakuroPasses {
             number: 0,
             at: 0,
             count,
@@ -100,15 +103,29 @@ fn flatten_passes(answer: Counted, volumes: [u64; 20]) -> EndakuroPasses
     }
 }
 
-// The volumes of all passes. The prover's base volume is not judged here and in the draw.
-#[no_mangle]
-pub extern "C" fn endakuro_passes(prover: EndakuroProver, records: &[u8]) -> EndakuroPasses
-    ensures { λ r. ⌜ r ≡ flatPasses (passesOf (proverBy prover) (now (records .entry))) (heldFor (proverBy prover) (now (records .entry))) ⌝ }
+fn list_volumes(profile: Profile, prover: EndakuroProver, records: &[u8]) -> EndakuroPasses
+    ensures { λ r. ⌜ r ≡ flatPasses (countOf profile (proverBy prover) (now (records .entry))) (heldFor profile (proverBy prover) (now (records .entry))) ⌝ }
 {
-    let found = draw::passes(settings::take_up(prover), records);
+    let found = draw::volumes(profile, settings::take_up(prover), records);
     let answer = found.answer;
     let volumes = found.volumes;
     flatten_passes(answer, volumes)
+}
+
+// The volumes of all passes. The prover's base volume is not judged here and in the draws.
+#[no_mangle]
+pub extern "C" fn endakuro_passes(prover: EndakuroProver, records: &[u8]) -> EndakuroPasses
+    ensures { λ r. ⌜ r ≡ flatPasses (countOf Unidirectional (proverBy prover) (now (records .entry))) (heldFor Unidirectional (proverBy prover) (now (records .entry))) ⌝ }
+{
+    list_volumes(Profile::Unidirectional, prover, records)
+}
+
+// The volumes of all round trips of a bidirectional prover.
+#[no_mangle]
+pub extern "C" fn endakuro_trips(prover: EndakuroProver, records: &[u8]) -> EndakuroPasses
+    ensures { λ r. ⌜ r ≡ flatPasses (countOf Bidirectional (proverBy prover) (now (records .entry))) (heldFor Bidirectional (proverBy prover) (now (records .entry))) ⌝ }
+{
+    list_volumes(Profile::Bidirectional, prover, records)
 }
 
 fn flatten_draw(answer: WaterDraw) -> EndakuroDraw
@@ -135,9 +152,18 @@ fn flatten_draw(answer: WaterDraw) -> EndakuroDraw
     }
 }
 
+// The water draw of a unidirectional prover.
 #[no_mangle]
 pub extern "C" fn endakuro_draw(prover: EndakuroProver, records: &[u8]) -> EndakuroDraw
-    ensures { λ r. ⌜ r ≡ flatDraw (drawOf (proverBy prover) (now (records .entry))) ⌝ }
+    ensures { λ r. ⌜ r ≡ flatDraw (drawOf Unidirectional (proverBy prover) (now (records .entry))) ⌝ }
 {
-    flatten_draw(draw::draw(settings::take_up(prover), records))
+    flatten_draw(draw::draw(Profile::Unidirectional, settings::take_up(prover), records))
+}
+
+// The water draw of a bidirectional prover.
+#[no_mangle]
+pub extern "C" fn endakuro_bidirectional(prover: EndakuroProver, records: &[u8]) -> EndakuroDraw
+    ensures { λ r. ⌜ r ≡ flatDraw (drawOf Bidirectional (proverBy prover) (now (records .entry))) ⌝ }
+{
+    flatten_draw(draw::draw(Profile::Bidirectional, settings::take_up(prover), records))
 }

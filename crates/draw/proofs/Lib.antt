@@ -1,7 +1,7 @@
 pub mod Fields
 pub mod Magnitudes
 pub mod Sound
-pub mod Volumes
+pub mod Filling
 pub mod Outcome
 pub mod Rule
 pub mod Sums

@@ -104,6 +104,10 @@ module _ (pipe : Pipe) (pressure : ℕ) (pipe-ok : pipeOk pipe ≡ true) (ok : p
   pub product-fits : {a b : ℕ} → a ≡ cpsAt 6 pipe pressure → b ≡ cplAt 6 (waterAt pressure) → a * b ≤ 4000000000000
   product-fits is-a is-b = rw (is-a, is-b) (mul-le-mul {n₂ = 2000000} {m₂ = 2000000} (cps-small Six pipe pressure pipe-ok ok) (cpl-small Six (waterAt pressure) (water-ok pressure ok)))
 
+  pub corrected-most : (sum : ℕ) → correctedVolume pipe pressure sum ≤ sum
+  unfolding correctedVolume
+  corrected-most sum = at-most (sum * 1000000000000) sum (omega (arith, product-least)) (mul-le-mul-left sum product-least)
+
   pub corrected-value : {a b : ℕ} (sum : ℕ) → sum ≤ 30000000000 → a ≡ cpsAt 6 pipe pressure → b ≡ cplAt 6 (waterAt pressure) → valueOrZero (quotientOf (sum * 1000000000000) (a * b)) ≡ correctedVolume pipe pressure sum
   unfolding correctedVolume
   corrected-value sum few is-a is-b =

@@ -1,13 +1,15 @@
--- No fill is lost and none is counted twice: the sums of all passes are together the sum of all fills.
-use mathlib.Core.Path.{_≡_, refl, _∙_}
-use mathlib.Core.Bool.{cond}
+-- No fill is lost and none is counted twice: the sums of all passes are together the sum of all fills. Nor is a pass of round trips: their volumes
+-- are together those of all passes.
+use mathlib.Core.Path.{_≡_, refl, ap, _∙_}
+use mathlib.Core.Bool.{true, cond}
 use mathlib.Core.Logic.{by-cases}
 use mathlib.Core.List.{List}
-use Prim.Native.Nat.{ℕ, zero, suc, _+_, _≤_, _<_}
+use Prim.Native.Nat.{ℕ, zero, suc, _+_, _-_, _*_, _%_, _≤_, _<_}
 use native.Mathlib.Decide.{decLt}
 use native.Mathlib.Omega.{arith}
-use borrow.Author.Tests.{eq-eqb, ne-eqb}
+use borrow.Author.Tests.{eqb-true, eq-eqb, ne-eqb}
 use lib.Dec.{eqb}
+use Rattle.ranges.proofs.Laws.{both-first}
 use Rattle.octets.specs.Records.{recordsIn}
 use Rattle.exact.specs.Words.{sumOf}
 use Rattle.group.specs.Listed.{listed}
@@ -15,7 +17,9 @@ use Rattle.factors.specs.declared.Metal.{Metal}
 use Rattle.factors.specs.declared.Prover.{Prover}
 use Rattle.draw.specs.Fill.{fillAt}
 use Rattle.draw.specs.Drawn.{drawn}
-use Rattle.draw.specs.Passes.{passCount, isOf, drawnFor, passSum}
+use Rattle.draw.specs.Passes.{passCount, isOf, drawnFor, passSum, passVolume}
+use Rattle.draw.specs.Profile.{passesFit, outPass, backPass, tripVolume, volumeCount, volumeOf, volumesOf}
+use Rattle.draw.specs.declared.Profile.the-variants.{Bidirectional}
 use Rattle.draw.proofs.Sound.{Sound}
 use Rattle.draw.proofs.Rule.{within-count}
 
@@ -67,3 +71,25 @@ gathered q x c (suc n) i each =
 pub all-fills-once : (prover : Prover) (s : List ℕ) → Sound prover s → sumOf (listed (passSum (prover .metal) s) (passCount s) 1) ≡ sumOf (listed (drawnAt (prover .metal) s) (recordsIn 32 s) 0)
 unfolding passSum drawnFor isOf drawnAt
 all-fills-once prover s good = gathered (λ i. fillAt s i .pass) (drawnAt (prover .metal) s) (passCount s) (recordsIn 32 s) 0 (λ i l h. within-count prover s good i (omega arith))
+
+-- ---- round trips
+
+-- values two by two: those of places 2i - 1 and 2i, and so on
+two-by-two : (f : ℕ → ℕ) (n i : ℕ) → 1 ≤ i → total (λ j. f (2 * j - 1) + f (2 * j)) n i ≡ total f (2 * n) (2 * i - 1)
+unfolding sumOf listed
+two-by-two f zero i some = refl
+two-by-two f (suc n) i some =
+    let rest = two-by-two f n (i + 1) (omega arith) in
+    let more : 2 * suc n ≡ suc (suc (2 * n)) = omega arith in
+    let next : 2 * i - 1 + 1 ≡ 2 * i = omega arith in
+    let after : 2 * i - 1 + 1 + 1 ≡ 2 * (i + 1) - 1 = omega arith in
+    omega (arith, rest, ap f next, ap (total f (2 * n)) after, ap (λ (m : ℕ). total f m (2 * i - 1)) more)
+
+module _ (prover : Prover) (s : List ℕ) (fit : passesFit Bidirectional (passCount s) ≡ true) where
+  pub paired : 2 * volumeCount Bidirectional s ≡ passCount s
+  unfolding passesFit volumeCount
+  paired = let even : passCount s % 2 ≡ 0 = eqb-true _ _ (both-first (eqb (passCount s % 2) 0) _ fit) in omega arith
+
+  pub all-passes-once : sumOf (volumesOf Bidirectional prover s) ≡ sumOf (listed (passVolume prover s) (passCount s) 1)
+  unfolding volumesOf volumeOf tripVolume outPass backPass
+  all-passes-once = two-by-two (passVolume prover s) (volumeCount Bidirectional s) 1 (omega arith) ∙ ap (λ (n : ℕ). total (passVolume prover s) n 1) paired

@@ -57,7 +57,3 @@ correctedVolume pipe pressure sum = roundedDiv (sum * 10 ^ 12) (cpsAt 6 pipe pre
 -- a pass's volume, in 0.01 cubic inch
 unfoldable pub passVolume : Prover → List ℕ → ℕ → ℕ
 passVolume prover s pass = correctedVolume (prover .pipe) (passPressure s pass) (passSum (prover .metal) s pass)
-
--- the volumes of all passes, which count from 1
-unfoldable pub volumesOf : Prover → List ℕ → List ℕ
-volumesOf prover s = listed (passVolume prover s) (passCount s) 1

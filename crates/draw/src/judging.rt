@@ -1,5 +1,7 @@
 // Judging a draw in the paper's order (01, 'Numbers given back').
+use crate::Profile;
 use crate::fills;
+use crate::profiles;
 use factors::Prover;
 use refusals::Refusal;
 use refusals::Verdict;
@@ -9,7 +11,7 @@ ghost use Rattle.refusals.specs.Verdict.{faultOf};
 ghost use Rattle.octets.specs.FirstToLast.{scan};
 ghost use Rattle.octets.specs.Records.{recordsIn};
 ghost use Rattle.draw.specs.Passes.{passCount};
-ghost use Rattle.draw.specs.Answers.{recordFault, fillFault, drawFault};
+ghost use Rattle.draw.specs.Answers.{recordFault, fillFault, fillsFault, drawFault};
 
 // One record by itself: 5, then 2.
 pub(crate) fn judge_record(s: &[u8], i: usize) -> Verdict
@@ -60,23 +62,33 @@ pub(crate) fn count_passes(s: &[u8]) -> u8
     fills::decode(s, s.len() / 32 - 1).pass
 }
 
-// 1, 3, the records, and 1 again for the count of passes.
-pub(crate) fn judge_draw(prover: Prover, s: &[u8]) -> Verdict
-    ensures { λ r. ⌜ faultOf r ≡ drawFault prover (now (s .entry)) ⌝ }
+// 1, 3 and the records.
+fn judge_records(prover: Prover, s: &[u8]) -> Verdict
+    ensures { λ r. ⌜ faultOf r ≡ fillsFault prover (now (s .entry)) ⌝ }
 {
     let fills = s.len() / 32;
     if (s.len() % 32 == 0) & ranges::are_fills(fills as u64) {
         let metal = prover.metal;
         let pipe = prover.pipe;
         let settings = factors::is_metal(metal) & factors::is_pipe(pipe);
-        let passes = count_passes(s) as u64;
         return refusals::or_else(
             refusals::demand(settings, Refusal::ProverSetting),
-            refusals::or_else(
-                judge_fills(s, fills),
-                refusals::demand(ranges::are_passes(passes), Refusal::Records),
-            ),
+            judge_fills(s, fills),
         );
     }
     Verdict::Refused(Refusal::Records)
+}
+
+// These, and 1 again for the count of passes.
+pub(crate) fn judge_draw(profile: Profile, prover: Prover, s: &[u8]) -> Verdict
+    ensures { λ r. ⌜ faultOf r ≡ drawFault profile prover (now (s .entry)) ⌝ }
+{
+    let verdict = judge_records(prover, s);
+    match verdict {
+        Verdict::Fine => {
+            let passes = count_passes(s) as u64;
+            refusals::demand(profiles::accepts(profile, passes), Refusal::Records)
+        }
+        Verdict::Refused(refusal) => Verdict::Refused(refusal),
+    }
 }

@@ -1,6 +1,6 @@
-// The water draw of a pipe prover (01, 'Water draw'): fills of a certified measure, passes of fills, and
-// the base volume from the first three passes that repeat. Volumes are in 0.01 cubic inch, factors have
-// 6 places.
+// The water draw of a pipe prover (01, 'Water draw'; 02, 'Bidirectional provers'): fills of a certified
+// measure, passes of fills, round trips of passes, and the base volume from the first three passes, or
+// round trips, that repeat. Volumes are in 0.01 cubic inch, factors have 6 places.
 use factors::Metal;
 use factors::Prover;
 use group::Group;
@@ -10,11 +10,18 @@ ghost use mathlib.Core.Path.{_≡_};
 ghost use Prim.Native.Nat.{_≤_};
 ghost use lib.ListN.{length};
 ghost use Rattle.draw.specs.Base.{barrelsOf, baseFrom, baseOf};
-ghost use Rattle.draw.specs.Answers.{toldFill, toldPasses, toldDraw, fillOf, passesOf, heldFor, drawOf};
+ghost use Rattle.draw.specs.Answers.{toldFill, toldCount, toldDraw, fillOf, countOf, heldFor, drawOf};
 
 mod fills;
 mod judging;
 mod passing;
+mod profiles;
+
+// The type of a prover: its displacer passes in one direction, or out and back.
+pub enum Profile {
+    Unidirectional,
+    Bidirectional,
+}
 
 // A fill record as it stands in its bytes: volumes in 0.01 cubic inch, temperatures in 0.1 °F, the
 // measure's coefficient in 10^-7 per °F, CTDW at 6 places, the pressure in psi gage.
@@ -44,14 +51,15 @@ pub enum FillAnswer {
     Refused(Refusal),
 }
 
-// How many passes there are.
+// How many volumes there are: of passes, or of round trips.
 pub enum Counted {
-    Passes(u8),
+    Volumes(u8),
     Refused(Refusal),
 }
 
-// Each pass's volume, in the passes' order, and zeros after the last; zeros alone beside a refusal.
-pub struct PassVolumes {
+// Each volume, in the order of passes or round trips, and zeros after the last; zeros alone beside a
+// refusal.
+pub struct DrawVolumes {
     pub answer: Counted,
     pub volumes: [u64; 20],
 }
@@ -85,22 +93,22 @@ pub fn fill(metal: Metal, bytes: &[u8]) -> FillAnswer
     }
 }
 
-// The volumes of all passes of a draw, of which three need not qualify.
-pub fn passes(prover: Prover, records: &[u8]) -> PassVolumes
-    ensures { λ r. ⌜ (toldPasses (r .answer) ≡ passesOf prover (now (records .entry))) × (r .volumes ≡ heldFor prover (now (records .entry))) ⌝ }
+// The volumes of all passes of a draw, or of all its round trips; three of them need not qualify.
+pub fn volumes(profile: Profile, prover: Prover, records: &[u8]) -> DrawVolumes
+    ensures { λ r. ⌜ (toldCount (r .answer) ≡ countOf profile prover (now (records .entry))) × (r .volumes ≡ heldFor profile prover (now (records .entry))) ⌝ }
 {
-    let verdict = judging::judge_draw(prover, records);
+    let verdict = judging::judge_draw(profile, prover, records);
     match verdict {
         Verdict::Fine => {
-            let count = judging::count_passes(records);
-            let volumes = passing::collect(prover, records, count);
-            PassVolumes {
-                answer: Counted::Passes(count),
+            let count = profiles::count_volumes(profile, records);
+            let volumes = passing::collect(profile, prover, records, count);
+            DrawVolumes {
+                answer: Counted::Volumes(count),
                 volumes,
             }
         }
         Verdict::Refused(refusal) => {
-            PassVolumes {
+            DrawVolumes {
                 answer: Counted::Refused(refusal),
                 volumes: [0u64; 20],
             }
@@ -115,45 +123,45 @@ fn in_barrels(base: u64) -> u64
     exact::round_or_zero(base, 10000, 970200)
 }
 
-// The base volume from the passes that decide, of which the first is at a place from 0.
-fn base_from(three: &[u64], at: usize) -> BaseVolume
+// The base volume from the volumes that decide, of which the first is at a place from 0.
+fn base_from(profile: Profile, three: &[u64], at: usize) -> BaseVolume
     requires { ⌜ at ≤ 20 ⌝ }
-    ensures { λ r. ⌜ r ≡ baseFrom (now (three .entry)) at ⌝ }
+    ensures { λ r. ⌜ r ≡ baseFrom profile (now (three .entry)) at ⌝ }
 {
     let base = group::mean(three);
     BaseVolume {
         base,
         barrels: in_barrels(base),
-        first: (at + 1) as u8,
+        first: profiles::first_pass(profile, (at + 1) as u8),
     }
 }
 
 // The first three consecutive volumes that qualify decide.
-fn decide(volumes: &[u64]) -> WaterDraw
+fn decide(profile: Profile, volumes: &[u64]) -> WaterDraw
     requires { ⌜ length (now volumes) ≤ 20 ⌝ }
-    ensures { λ r. ⌜ toldDraw r ≡ baseOf 2 3 (now (volumes .entry)) ⌝ }
+    ensures { λ r. ⌜ toldDraw r ≡ baseOf profile 2 3 (now (volumes .entry)) ⌝ }
 {
     let found = group::first_group(volumes, 3, 2);
     match found {
         Group::At(at) => {
             let three = &volumes[at..at + 3];
-            WaterDraw::Drawn(base_from(three, at))
+            WaterDraw::Drawn(base_from(profile, three, at))
         }
         Group::Nothing => WaterDraw::Refused(Refusal::NoGroup),
     }
 }
 
 // The water draw. The prover's base volume is not judged: the draw is what gives one.
-pub fn draw(prover: Prover, records: &[u8]) -> WaterDraw
-    ensures { λ r. ⌜ toldDraw r ≡ drawOf prover (now (records .entry)) ⌝ }
+pub fn draw(profile: Profile, prover: Prover, records: &[u8]) -> WaterDraw
+    ensures { λ r. ⌜ toldDraw r ≡ drawOf profile prover (now (records .entry)) ⌝ }
 {
-    let found = passes(prover, records);
+    let found = volumes(profile, prover, records);
     let answer = found.answer;
     match answer {
-        Counted::Passes(count) => {
+        Counted::Volumes(count) => {
             let volumes = found.volumes;
             let end = count as usize;
-            decide(&volumes[..end])
+            decide(profile, &volumes[..end])
         }
         Counted::Refused(refusal) => WaterDraw::Refused(refusal),
     }

@@ -3,6 +3,7 @@ use crate::answers;
 use crate::operands;
 use draw::Counted;
 use draw::FillAnswer;
+use draw::Profile;
 use draw::WaterDraw;
 use factors::Factor;
 use group::Spread;
@@ -129,8 +130,8 @@ fn say_run(line: &[u8], bytes: &[u8], out: &mut [u8]) -> usize {
     }
 }
 
-fn say_draw(line: &[u8], records: &[u8], out: &mut [u8]) -> usize {
-    let drawn = draw::draw(operands::prover_at(line, 1), records);
+fn say_draw(profile: Profile, line: &[u8], records: &[u8], out: &mut [u8]) -> usize {
+    let drawn = draw::draw(profile, operands::prover_at(line, 1), records);
     match drawn {
         WaterDraw::Drawn(volume) => {
             say_ok(&[volume.base, volume.barrels, volume.first as u64], out)
@@ -167,12 +168,12 @@ fn say_volumes(volumes: [u64; 20], count: u8, out: &mut [u8]) -> usize {
     at
 }
 
-fn say_passes(line: &[u8], records: &[u8], out: &mut [u8]) -> usize {
-    let found = draw::passes(operands::prover_at(line, 1), records);
+fn list_volumes(profile: Profile, line: &[u8], records: &[u8], out: &mut [u8]) -> usize {
+    let found = draw::volumes(profile, operands::prover_at(line, 1), records);
     let answer = found.answer;
     let volumes = found.volumes;
     match answer {
-        Counted::Passes(count) => say_volumes(volumes, count, out),
+        Counted::Volumes(count) => say_volumes(volumes, count, out),
         Counted::Refused(refusal) => refuse(refusal, out),
     }
 }
@@ -291,9 +292,11 @@ fn answer_records(entry: usize, line: &[u8], records: &[u8], out: &mut [u8]) -> 
         8 => say_runs(line, records, out),
         9 => say_run(line, records, out),
         10 => say_read(records, out),
-        11 => say_draw(line, records, out),
+        11 => say_draw(Profile::Unidirectional, line, records, out),
         12 => say_fill(line, records, out),
-        _ => say_passes(line, records, out),
+        13 => list_volumes(Profile::Unidirectional, line, records, out),
+        14 => say_draw(Profile::Bidirectional, line, records, out),
+        _ => list_volumes(Profile::Bidirectional, line, records, out),
     }
 }
 
@@ -332,14 +335,14 @@ fn answer_spread(line: &[u8], out: &mut [u8]) -> usize {
 
 fn answer_numbers(entry: usize, line: &[u8], out: &mut [u8]) -> usize {
     match entry {
-        14 => answer_cts(line, out),
-        15 => answer_cps(line, out),
-        16 => answer_cpl(line, out),
-        17 => answer_ticket(line, out),
-        18 => answer_live(line, out),
-        19 => answer_spread(line, out),
-        20 => answer_panel_temperature(line, out),
-        21 => answer_panel_pressure(line, out),
+        16 => answer_cts(line, out),
+        17 => answer_cps(line, out),
+        18 => answer_cpl(line, out),
+        19 => answer_ticket(line, out),
+        20 => answer_live(line, out),
+        21 => answer_spread(line, out),
+        22 => answer_panel_temperature(line, out),
+        23 => answer_panel_pressure(line, out),
         _ => answers::say_bad(out),
     }
 }
@@ -355,7 +358,7 @@ pub(crate) fn answer(
     match entry {
         6 => answer_prove(line, first, second, out),
         7 => answer_write(line, first, out),
-        8..=13 => answer_lent(entry, line, first, out),
+        8..=15 => answer_lent(entry, line, first, out),
         _ => answer_numbers(entry, line, out),
     }
 }

@@ -14,7 +14,7 @@ use lib.IntN.{ℤ}
 use lib.Ieee.{Float}
 use lib.ListN.{length}
 use Rattle.refusals.specs.Told.{Told, refused, leftBy}
-use Rattle.ranges.specs.Table.{temperatureOk, pressureOk, kFactorOk, limitOk, volumeOk, runFactorOk, passesOk, fillsOk}
+use Rattle.ranges.specs.Table.{temperatureOk, pressureOk, kFactorOk, limitOk, volumeOk, runFactorOk, fillsOk}
 use Rattle.octets.specs.Records.{recordsIn, areRecords}
 use Rattle.ranges.specs.Within.{within}
 use Rattle.ranges.proofs.Laws.{within-true}
@@ -38,9 +38,11 @@ use Rattle.report.specs.declared.Factors.{Factors}
 use Rattle.proving.specs.Judging.{runsIn, sizeOk, settingsFault, recordFault, runFault, inputFault}
 use Rattle.proving.specs.Job.{firstFive, reportAt, foundOf, jobOf, acceptedBy, acceptedOf}
 use Rattle.draw.specs.Fill.{fillAt, fillOk, unnamedOk as fillUnnamedOk, ruleOk}
-use Rattle.draw.specs.Passes.{passCount, volumesOf}
+use Rattle.draw.specs.Passes.{passCount}
+use Rattle.draw.specs.Profile.{passesFit, volumesOf}
 use Rattle.draw.specs.Base.{baseOf}
-use Rattle.draw.specs.Answers.{recordFault as recordFaultOfFill, fillFault, drawFault, fillOf, passesOf, drawOf}
+use Rattle.draw.specs.Answers.{recordFault as recordFaultOfFill, fillFault, fillsFault, drawFault, fillOf, countOf, drawOf}
+use Rattle.draw.specs.declared.Profile.{Profile}
 use Rattle.ticket.specs.Ranges.{ticketOk}
 use Rattle.ticket.specs.Answers.{ticketOf}
 use Rattle.ticket.specs.declared.Ticket.{Ticket}
@@ -151,7 +153,8 @@ pub read-ends : (s : List ℕ) → Ends readNumbers 0 0 (readOf s)
 unfolding readOf isOneOf markedOf recordOk refusalOk
 read-ends s = by-judged _ (by-orElse (by-demand (eqb (length s) 32) 14 refl) (by-demand (isReport s) 15 refl))
 
--- ---- a water draw: 'drops 14, 22, 4'; 'records first to last, each with 5, 2, 6'; 'more or fewer passes than 3 to 20 is 1'; then 9
+-- ---- a water draw: 'drops 14, 22, 4'; 'records first to last, each with 5, 2, 6'; 1 for a count of passes that its profile has no use
+-- for; then 9
 
 record-finds : {numbers : List ℕ} {first last : ℕ} (s : List ℕ) (i : ℕ) → refusalOk numbers first last 5 (i + 1) ≡ true → refusalOk numbers first last 2 (i + 1) ≡ true → Finds numbers first last (recordFaultOfFill s i)
 unfolding recordFaultOfFill
@@ -161,25 +164,25 @@ pub fill-ends : (metal : Metal) (s : List ℕ) → Ends fillNumbers 1 1 (fillOf 
 unfolding fillOf isOneOf markedOf recordOk refusalOk
 fill-ends metal s = by-judged _ (by-orElse (by-demand (eqb (length s) 32) 1 refl) (by-orElse (by-demand (metalOk metal) 3 refl) (record-finds s 0 refl refl)))
 
-draw-finds : {numbers : List ℕ} (prover : Prover) (s : List ℕ) → Given numbers (recordsIn 32 s) 1 → Given numbers (recordsIn 32 s) 3 → Carried numbers (recordsIn 32 s) 5
-    → Carried numbers (recordsIn 32 s) 2 → Carried numbers (recordsIn 32 s) 6 → Finds numbers 1 (recordsIn 32 s) (drawFault prover s)
-unfolding drawFault fillFault
-draw-finds prover s one three five two six =
-    by-orElse (by-demand (areRecords fillsOk 32 (length s)) 1 one)
+draw-finds : {numbers : List ℕ} (profile : Profile) (prover : Prover) (s : List ℕ) → Given numbers (recordsIn 32 s) 1 → Given numbers (recordsIn 32 s) 3 → Carried numbers (recordsIn 32 s) 5
+    → Carried numbers (recordsIn 32 s) 2 → Carried numbers (recordsIn 32 s) 6 → Finds numbers 1 (recordsIn 32 s) (drawFault profile prover s)
+unfolding drawFault fillsFault fillFault
+draw-finds profile prover s one three five two six =
+    by-orElse
+    (by-orElse (by-demand (areRecords fillsOk 32 (length s)) 1 one)
     (by-orElse (by-demand (metalOk (prover .metal) && pipeOk (prover .pipe)) 3 three)
-    (by-orElse
-    (by-scan (fillFault s) (recordsIn 32 s) 0 (λ i _ h. let b : i < recordsIn 32 s = omega arith in by-orElse (record-finds s i (five i b) (two i b)) (by-demandAt (ruleOk s i) 6 (i + 1) (six i b))))
-    (by-demand (passesOk (passCount s)) 1 one)))
+    (by-scan (fillFault s) (recordsIn 32 s) 0 (λ i _ h. let b : i < recordsIn 32 s = omega arith in by-orElse (record-finds s i (five i b) (two i b)) (by-demandAt (ruleOk s i) 6 (i + 1) (six i b))))))
+    (by-demand (passesFit profile (passCount s)) 1 one)
 
-pub passes-end : (prover : Prover) (s : List ℕ) → Ends passesNumbers 1 (recordsIn 32 s) (passesOf prover s)
-unfolding passesOf isOneOf markedOf recordOk refusalOk
-passes-end prover s = by-judged _ (let of = of-records (recordsIn 32 s) in draw-finds prover s refl refl of of of)
+pub volumes-end : (profile : Profile) (prover : Prover) (s : List ℕ) → Ends passesNumbers 1 (recordsIn 32 s) (countOf profile prover s)
+unfolding countOf isOneOf markedOf recordOk refusalOk
+volumes-end profile prover s = by-judged _ (let of = of-records (recordsIn 32 s) in draw-finds profile prover s refl refl of of of)
 
-pub draw-ends : (prover : Prover) (s : List ℕ) → Ends drawNumbers 1 (recordsIn 32 s) (drawOf prover s)
+pub draw-ends : (profile : Profile) (prover : Prover) (s : List ℕ) → Ends drawNumbers 1 (recordsIn 32 s) (drawOf profile prover s)
 unfolding drawOf baseOf isOneOf markedOf recordOk refusalOk
-draw-ends prover s =
+draw-ends profile prover s =
     let of = of-records (recordsIn 32 s) in
-    by-unless (draw-finds prover s refl refl of of of) (by-nine (firstGroup 2 3 (volumesOf prover s)) _ refl)
+    by-unless (draw-finds profile prover s refl refl of of of) (by-nine (firstGroup 2 3 (volumesOf profile prover s)) _ refl)
 
 -- ---- 'A ticket: 10, 11.' A live reading: 12, 13. The panel: 13.
 

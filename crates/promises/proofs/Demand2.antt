@@ -23,10 +23,11 @@ use Rattle.proving.specs.Judging.{inputFault}
 use Rattle.proving.specs.Job.{firstFive, reportAt, jobOf, foundOf, acceptedOf}
 use Rattle.proving.proofs.Laws.{Reached, reached}
 use Rattle.proving.proofs.Accepted.{same-number, empty-when-refused, begins-at-first-run, whole-when-done}
-use Rattle.draw.specs.Passes.{volumesOf}
+use Rattle.draw.specs.Profile.{volumesOf}
 use Rattle.draw.specs.Base.{barrelsOf, baseFrom}
 use Rattle.draw.specs.Answers.{drawOf}
 use Rattle.draw.specs.declared.BaseVolume.{BaseVolume}
+use Rattle.draw.specs.declared.Profile.{Profile}
 use Rattle.draw.proofs.Outcome.{Accepted, accepted}
 use Rattle.promises.specs.Proving.{Asked, Acceptable, Used}
 use Rattle.promises.specs.WaterDraw as draw
@@ -97,25 +98,28 @@ module _ (prover : Prover) (k limit : ℕ) (s : List ℕ) where
 
 -- ---- the water draw
 
-module _ (prover : Prover) (s : List ℕ) where
+module _ (profile : Profile) (prover : Prover) (s : List ℕ) where
   -- 'A job is accepted exactly when ..': only then,
-  pub draw-accepted-only-when : {b : BaseVolume} → drawOf prover s ≡ done b → draw.Acceptable prover s
-  draw-accepted-only-when = draw-tells prover s .accepted
+  pub draw-accepted-only-when : {b : BaseVolume} → drawOf profile prover s ≡ done b → draw.Acceptable profile prover s
+  draw-accepted-only-when = draw-tells profile prover s .accepted
 
   -- and always then
-  pub draw-accepted-when : draw.Acceptable prover s → (b : BaseVolume) × (drawOf prover s ≡ done b)
-  draw-accepted-when = draw-tells prover s .gives
+  pub draw-accepted-when : draw.Acceptable profile prover s → (b : BaseVolume) × (drawOf profile prover s ≡ done b)
+  draw-accepted-when = draw-tells profile prover s .gives
 
   -- 'The first such group is the one used.' Its mean is the base volume.
-  pub draw-first-is-used : {b : BaseVolume} → drawOf prover s ≡ done b → draw.Used prover s b
+  pub draw-first-is-used : {b : BaseVolume} → drawOf profile prover s ≡ done b → draw.Used profile prover s b
   unfolding baseFrom
   draw-first-is-used {b} is =
-      let d : Accepted prover s b = accepted prover s is in
-      let least : Least (draw.volumeAt prover s) (volumesOf prover s) (volume-values prover s) 3 2 (d .at) = first-least (draw.volumeAt prover s) (volumesOf prover s) (volume-values prover s) 3 2 (d .first) in
-      let three = group-listed (draw.volumeAt prover s) (volumesOf prover s) (volume-values prover s) 3 (d .at) (least .room) in
+      let d : Accepted profile prover s b = accepted profile prover s is in
+      let volume = draw.volumeAt profile prover s in
+      let all = volumesOf profile prover s in
+      let values = volume-values profile prover s in
+      let least : Least volume all values 3 2 (d .at) = first-least volume all values 3 2 (d .first) in
+      let three = group-listed volume all values 3 (d .at) (least .room) in
       record {
         place = d .at;
-        three = record { room = omega (arith, least .room, volume-count prover s); meet = least .meet };
+        three = record { room = omega (arith, least .room, volume-count profile prover s); meet = least .meet };
         none-before = λ j h meets. apart (sym (meets .meet) ∙ least .earlier j h);
         base = ap (λ (q : BaseVolume). q .base) (d .gives) ∙ ap meanOf three;
         barrels = ap (λ (q : BaseVolume). q .barrels) (d .gives) ∙ ap (λ (xs : List ℕ). barrelsOf (meanOf xs)) three;

@@ -5,7 +5,7 @@ use Rattle.factors.specs.Places.{digits}
 use Rattle.promises.specs.Arguments.{first, second, third, fourth, fifth, sixth}
 use Rattle.promises.specs.Entries.{Entries}
 use Rattle.promises.proofs.Endings.{as-told}
-use Rattle.promises.proofs.Demand1.{cts-ends, cps-ends, cpl-ends, worked-ends, shown-ends, job-ends, none-when-refused, write-ends, read-ends, fill-ends, passes-end, draw-ends}
+use Rattle.promises.proofs.Demand1.{cts-ends, cps-ends, cpl-ends, worked-ends, shown-ends, job-ends, none-when-refused, write-ends, read-ends, fill-ends, volumes-end, draw-ends}
 use Rattle.promises.proofs.Demand1.{ticket-ends, live-ends, panel-temperature-ends, panel-pressure-ends, request-ends, withdrawal-ends, take-ends, left-as-found, request-leaves-book, withdrawal-leaves-book, take-leaves-book}
 
 pub entries : Entries
@@ -23,8 +23,8 @@ entries =
       write-leaves = λ κ a r x p is. p .1 ∙ left-as-found _ (fifth a .now) (sym (p .0) ∙ is);
       read-entry = λ κ a r x p. as-told p (read-ends (first a .now));
       fill-entry = λ κ a r x p. as-told p (fill-ends (first a) (second a .now));
-      passes-entry = λ κ a r x p. as-told (p .0) (passes-end (first a) (second a .now));
-      draw-entry = λ κ a r x p. as-told p (draw-ends (first a) (second a .now));
+      volumes-entry = λ κ a r x p. as-told (p .0) (volumes-end (first a) (second a) (third a .now));
+      draw-entry = λ κ a r x p. as-told p (draw-ends (first a) (second a) (third a .now));
       ticket-entry = λ κ a r x p. as-told p (ticket-ends (first a));
       convert-entry = λ κ a r x p. as-told p (live-ends (first a .temperature) (first a .pressure));
       show-temperature-entry = λ κ a r x p. as-told p (panel-temperature-ends (first a));

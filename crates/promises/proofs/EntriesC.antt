@@ -11,8 +11,10 @@ use Rattle.factors.specs.Metal.{metalBy}
 use Rattle.run.specs.Record.{runSize}
 use Rattle.factors.specs.declared.Prover.{Prover}
 use Rattle.proving.specs.Job.{foundOf, acceptedBy, acceptedOf}
-use Rattle.draw.specs.Passes.{volumesOf}
-use Rattle.draw.specs.Answers.{passesOf, heldFor}
+use Rattle.draw.specs.Profile.{volumesOf}
+use Rattle.draw.specs.Answers.{countOf, heldFor}
+use Rattle.draw.specs.declared.Profile.{Profile}
+use Rattle.draw.specs.declared.Profile.the-variants.{Unidirectional, Bidirectional}
 use Rattle.api.specs.Given.{pipeBy, liquidBy, proverBy, factorsBy, ticketBy}
 use Rattle.api.specs.Flat.{partOf, flatPasses, noReport, noFigures, noFill, noBase, noVolumes, noReading, nothingShown, noHandout}
 use Rattle.api.specs.declared.jobs.EndakuroPart.{EndakuroPart}
@@ -23,7 +25,7 @@ use Rattle.promises.specs.Arguments.{first, second, third, fourth, fifth
 use Rattle.promises.specs.FlatEnding.{FlatEnds, byKind, passesIn}
 use Rattle.promises.specs.EntriesC.{EntriesC}
 use Rattle.promises.proofs.FlatEndings.{flat-ends, flat-leaves, done-at-zero, refused-at-other, factor-back, report-back, run-back, fill-back, passes-back, volumes-back, draw-back, ticket-back, live-back, panel-back, change-back, take-back, quotient-back, no-quotient}
-use Rattle.promises.proofs.Demand1.{cts-ends, cps-ends, cpl-ends, shown-ends, job-ends, write-ends, read-ends, fill-ends, passes-end, draw-ends, ticket-ends, live-ends, panel-temperature-ends, panel-pressure-ends, request-ends, withdrawal-ends, take-ends}
+use Rattle.promises.proofs.Demand1.{cts-ends, cps-ends, cpl-ends, shown-ends, job-ends, write-ends, read-ends, fill-ends, volumes-end, draw-ends, ticket-ends, live-ends, panel-temperature-ends, panel-pressure-ends, request-ends, withdrawal-ends, take-ends}
 use Rattle.promises.proofs.Demand1.{left-as-found, request-leaves-book, withdrawal-leaves-book, take-leaves-book}
 
 -- start and length in the lent records are the accepted runs
@@ -35,22 +37,28 @@ part-is-accepted : (prover : Prover) (k limit : ℕ) (s : List ℕ) → take (pa
 unfolding acceptedOf
 part-is-accepted prover k limit s = part-accepted (foundOf prover k limit s) s
 
--- the passes: their count, and the volumes that stand beside it, by what is told
-module _ (prover : Prover) (s : List ℕ) where
-  passes-flat : {r : EndakuroPasses} → r ≡ flatPasses (passesOf prover s) (heldFor prover s) → FlatEnds passesNumbers 1 (recordsIn 32 s) 0 (passesIn r) (passesOf prover s)
+-- passes or round trips: their count, and the volumes that stand beside it, by what is told
+module _ (profile : Profile) (prover : Prover) (s : List ℕ) where
+  volumes-flat : {r : EndakuroPasses} → r ≡ flatPasses (countOf profile prover s) (heldFor profile prover s) → FlatEnds passesNumbers 1 (recordsIn 32 s) 0 (passesIn r) (countOf profile prover s)
   unfolding isOneOf
-  passes-flat is = flat-ends refl 0 (passes-back (heldFor prover s)) is (passes-end prover s)
+  volumes-flat is = flat-ends refl 0 (passes-back (heldFor profile prover s)) is (volumes-end profile prover s)
 
-  passes-held : {r : EndakuroPasses} → r ≡ flatPasses (passesOf prover s) (heldFor prover s) → r .volumes ≡ heldFor prover s
-  passes-held = volumes-back (passesOf prover s) (heldFor prover s)
+  volumes-held : {r : EndakuroPasses} → r ≡ flatPasses (countOf profile prover s) (heldFor profile prover s) → r .volumes ≡ heldFor profile prover s
+  volumes-held = volumes-back (countOf profile prover s) (heldFor profile prover s)
 
-  held-when-done : {count : ℕ} → passesOf prover s ≡ done count → heldFor prover s ≡ zerosAfter 20 (volumesOf prover s)
+  held-when-done : {count : ℕ} → countOf profile prover s ≡ done count → heldFor profile prover s ≡ zerosAfter 20 (volumesOf profile prover s)
   unfolding heldFor
-  held-when-done is = ap (λ (t : Told ℕ). zerosAfter 20 (leftBy t (λ count. volumesOf prover s) [])) is
+  held-when-done is = ap (λ (t : Told ℕ). zerosAfter 20 (leftBy t (λ count. volumesOf profile prover s) [])) is
 
-  held-when-refused : {number at : ℕ} → passesOf prover s ≡ refused number at → heldFor prover s ≡ replicate 20 0
+  held-when-refused : {number at : ℕ} → countOf profile prover s ≡ refused number at → heldFor profile prover s ≡ replicate 20 0
   unfolding heldFor zerosAfter
-  held-when-refused is = ap (λ (t : Told ℕ). zerosAfter 20 (leftBy t (λ count. volumesOf prover s) [])) is
+  held-when-refused is = ap (λ (t : Told ℕ). zerosAfter 20 (leftBy t (λ count. volumesOf profile prover s) [])) is
+
+  listed-when-done : {r : EndakuroPasses} → r ≡ flatPasses (countOf profile prover s) (heldFor profile prover s) → r .number ≡ 0 → r .volumes ≡ zerosAfter 20 (volumesOf profile prover s)
+  listed-when-done is none = volumes-held is ∙ held-when-done (done-at-zero (volumes-flat is) none)
+
+  zeros-when-refused : {r : EndakuroPasses} → r ≡ flatPasses (countOf profile prover s) (heldFor profile prover s) → (r .number ≡ 0 → ⊥) → r .volumes ≡ replicate 20 0
+  zeros-when-refused is some = volumes-held is ∙ held-when-refused (refused-at-other (volumes-flat is) some)
 
 -- a quotient's two fields
 kind-of : {r q : EndakuroQuotient} → r ≡ q → r .kind ≡ q .kind
@@ -83,10 +91,14 @@ entries-c =
           (λ number at is. p .1 ∙ left-as-found _ (fifth a .now) is);
       read-entry = λ κ a r x p. flat-ends refl noReport report-back p (read-ends (first a .now));
       fill-entry = λ κ a r x p. flat-ends refl noFill fill-back p (fill-ends (metalBy (first a) (second a)) (third a .now));
-      passes-entry = λ κ a r x p. passes-flat (proverBy (first a)) (second a .now) p;
-      passes-volumes = λ κ a r x p is. passes-held (proverBy (first a)) (second a .now) p ∙ held-when-done (proverBy (first a)) (second a .now) (done-at-zero (passes-flat (proverBy (first a)) (second a .now) p) is);
-      passes-no-volumes = λ κ a r x p some. passes-held (proverBy (first a)) (second a .now) p ∙ held-when-refused (proverBy (first a)) (second a .now) (refused-at-other (passes-flat (proverBy (first a)) (second a .now) p) some);
-      draw-entry = λ κ a r x p. flat-ends refl noBase draw-back p (draw-ends (proverBy (first a)) (second a .now));
+      passes-entry = λ κ a r x p. volumes-flat Unidirectional (proverBy (first a)) (second a .now) p;
+      passes-volumes = λ κ a r x p. listed-when-done Unidirectional (proverBy (first a)) (second a .now) p;
+      passes-no-volumes = λ κ a r x p. zeros-when-refused Unidirectional (proverBy (first a)) (second a .now) p;
+      trips-entry = λ κ a r x p. volumes-flat Bidirectional (proverBy (first a)) (second a .now) p;
+      trips-volumes = λ κ a r x p. listed-when-done Bidirectional (proverBy (first a)) (second a .now) p;
+      trips-no-volumes = λ κ a r x p. zeros-when-refused Bidirectional (proverBy (first a)) (second a .now) p;
+      draw-entry = λ κ a r x p. flat-ends refl noBase draw-back p (draw-ends Unidirectional (proverBy (first a)) (second a .now));
+      bidirectional-entry = λ κ a r x p. flat-ends refl noBase draw-back p (draw-ends Bidirectional (proverBy (first a)) (second a .now));
       ticket-entry = λ κ a r x p. flat-ends refl noVolumes ticket-back p (ticket-ends (ticketBy (first a)));
       live-entry = λ κ a r x p. flat-ends refl noReading live-back p (live-ends (first a) (second a));
       panel-temperature-entry = λ κ a r x p. flat-ends refl nothingShown panel-back p (panel-temperature-ends (first a));

@@ -1,13 +1,25 @@
 -- Demand 2's formulas of the contracts: each answer tells its meaning, whose figures are their fractions rounded once.
-use mathlib.Core.Path.{sym, ap, _∙_}
+use mathlib.Core.Path.{_≡_, sym, ap, _∙_, subst}
+use mathlib.Core.Bool.{true}
+use Prim.Native.Nat.{ℕ, _+_, _%_}
+use native.Mathlib.Omega.{arith}
 use lib.ListN.{length}
 use Rattle.factors.specs.Places.{digits}
 use Rattle.report.specs.Judged.{told as toldReport}
+use Rattle.draw.specs.Passes.{passCount}
+use Rattle.draw.specs.Profile.{passesFit, outPass, firstPass}
 use Rattle.draw.specs.Answers.{toldDraw}
+use Rattle.draw.specs.declared.Profile.{Profile}
+use Rattle.draw.specs.declared.Profile.the-variants.{Bidirectional}
 use Rattle.promises.specs.Arguments.{first, second, third, fourth, fifth, sixth}
 use Rattle.promises.specs.EntryFormulas.{EntryFormulas}
 use Rattle.promises.proofs.Demand2.{accepted-only-when, first-is-used, draw-accepted-only-when, draw-first-is-used}
-use Rattle.promises.proofs.Formulas.{cts-rounded, cps-rounded, cpl-rounded, combined-rounded, run-rounded, accepted-run-rounded, job-factor-rounded, fill-rounded, fill-told, pass-rounded, passes-counted, base-rounded, ticket-rounded}
+use Rattle.promises.proofs.Formulas.{cts-rounded, cps-rounded, cpl-rounded, combined-rounded, run-rounded, accepted-run-rounded, job-factor-rounded, fill-rounded, fill-told, pass-rounded, passes-counted, trips-counted, base-rounded, ticket-rounded}
+
+-- a volume of a round trip begins with an odd pass
+from-out : {profile : Profile} {pass : ℕ} → profile ≡ Bidirectional → (place : ℕ) → pass ≡ firstPass profile (place + 1) → pass % 2 ≡ 1
+unfolding firstPass outPass
+from-out two-ways place is = let out = is ∙ ap (λ (profile : Profile). firstPass profile (place + 1)) two-ways in omega (arith, out)
 
 pub entry-formulas : EntryFormulas
 entry-formulas =
@@ -23,14 +35,19 @@ entry-formulas =
           job-factor-rounded (first a) (second a) (third a) (fourth a) (fifth a .now) report (first-is-used (second a) (third a) (fourth a) (fifth a .now) (first a) (length (sixth a .now)) (sym (p .0) ∙ ap toldReport is));
       fill-of-entry = λ κ a r x p is. fill-told (first a) (second a .now) (sym p ∙ is);
       fills-of-draw = λ κ a r x base p is i h.
-          let ok = draw-accepted-only-when (first a) (second a .now) (sym p ∙ ap toldDraw is) .input .fills in
-          fill-rounded (first a .metal) (second a .now) i (ok .settled .metal) (ok .records i h .fields);
+          let fills = draw-accepted-only-when (first a) (second a) (third a .now) (sym p ∙ ap toldDraw is) .input .fills in
+          fill-rounded (second a .metal) (third a .now) i (fills .settled .metal) (fills .records i h .fields);
       passes-of-draw = λ κ a r x base p is.
-          let ok = draw-accepted-only-when (first a) (second a .now) (sym p ∙ ap toldDraw is) .input in
-          (passes-counted (first a) (second a .now) ok, pass-rounded (first a) (second a .now) ok);
+          let fills = draw-accepted-only-when (first a) (second a) (third a .now) (sym p ∙ ap toldDraw is) .input .fills in
+          (passes-counted (second a) (third a .now) fills, pass-rounded (second a) (third a .now) fills);
+      trips-of-draw = λ κ a r x base p is two-ways.
+          let drawn = sym p ∙ ap toldDraw is in
+          let fit = draw-accepted-only-when (first a) (second a) (third a .now) drawn .input .passes in
+          let used = draw-first-is-used (first a) (second a) (third a .now) drawn in
+          (trips-counted (second a) (third a .now) (subst (λ (profile : Profile). passesFit profile (passCount (third a .now)) ≡ true) two-ways fit), from-out two-ways (used .place) (used .first));
       base-of-draw = λ κ a r x base p is.
-          let used = draw-first-is-used (first a) (second a .now) (sym p ∙ ap toldDraw is) in
-          let rounded = base-rounded (first a) (second a .now) base used in
+          let used = draw-first-is-used (first a) (second a) (third a .now) (sym p ∙ ap toldDraw is) in
+          let rounded = base-rounded (first a) (second a) (third a .now) base used in
           (used .place, used .first, rounded .0, rounded .1);
       ticket-of-entry = λ κ a r x p is. ticket-rounded (first a) (sym p ∙ is);
     }

@@ -9,12 +9,12 @@ use Rattle.refusals.specs.Told.{Told, refused}
 use Rattle.factors.specs.declared.Prover.{Prover}
 use Rattle.proving.specs.Job.{foundOf, jobOf, acceptedOf}
 use Rattle.proving.proofs.Accepted.{whole-when-done}
-use Rattle.draw.specs.Answers.{passesOf, drawOf}
+use Rattle.draw.specs.Answers.{countOf, drawOf}
 use Rattle.promises.specs.Arguments.{first, second, third, fourth, fifth, sixth}
 use Rattle.promises.specs.Causes.{ProvingCause}
 use Rattle.promises.specs.ExactCauses.{ExactCauses}
 use Rattle.promises.proofs.Reasons.{Tells, one-cause}
-use Rattle.promises.proofs.Judging.{found-tells, job-tells, passes-tells, draw-tells}
+use Rattle.promises.proofs.Judging.{found-tells, job-tells, volumes-tell, draw-tells}
 use Rattle.promises.proofs.Demand1.{none-when-refused}
 use Rattle.promises.proofs.Demand2.{accepted-when}
 
@@ -40,10 +40,10 @@ exact-causes =
     record {
       one-of-proving = λ prover k limit s. one-cause (foundOf prover k limit s) (found-tells prover k s limit);
       one-of-job = λ request prover k limit s size. one-cause (jobOf request prover k limit s size) (job-tells prover k s limit request size);
-      one-of-passes = λ prover s. one-cause (passesOf prover s) (passes-tells prover s);
-      one-of-draw = λ prover s. one-cause (drawOf prover s) (draw-tells prover s);
+      one-of-passes = λ profile prover s. one-cause (countOf profile prover s) (volumes-tell profile prover s);
+      one-of-draw = λ profile prover s. one-cause (drawOf profile prover s) (draw-tells profile prover s);
       prove-exactly = λ κ a r x number at p. told-exactly number at (job-tells (second a) (third a) (fifth a .now) (fourth a) (first a) (length (sixth a .now))) (p .0);
       accept-exactly = λ κ a r x p. let none = none-handed (first a) (second a) (third a) (fourth a .now) in ((λ is. none .0 (sym p ∙ is)), (λ why. p ∙ none .1 why));
-      passes-exactly = λ κ a r x number at p. told-exactly number at (passes-tells (first a) (second a .now)) (p .0);
-      draw-exactly = λ κ a r x number at p. told-exactly number at (draw-tells (first a) (second a .now)) p;
+      volumes-exactly = λ κ a r x number at p. told-exactly number at (volumes-tell (first a) (second a) (third a .now)) (p .0);
+      draw-exactly = λ κ a r x number at p. told-exactly number at (draw-tells (first a) (second a) (third a .now)) p;
     }

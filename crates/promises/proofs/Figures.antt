@@ -25,9 +25,10 @@ use Rattle.report.specs.Judged.{factorsOk, firstOk, jobOk, reportOk, isReport, 
 use Rattle.proving.specs.Job.{fiveAt}
 use Rattle.draw.specs.Fill.{fillFrom, fillAt, fillOk, unnamedOk, follows, ruleOk}
 use Rattle.draw.specs.Drawn.{adjusted, measureCts, proverCts, ccts, drawn as drawnBy, figuresOf as fillFigures}
-use Rattle.draw.specs.Passes.{passCount, isOf, drawnFor, passSum, passPressure, waterAt, correctedVolume, passVolume, volumesOf}
+use Rattle.draw.specs.Passes.{passCount, isOf, drawnFor, passSum, passPressure, waterAt, correctedVolume, passVolume}
+use Rattle.draw.specs.Profile.{passesFit, volumeCount, volumeOf, firstPass, volumesOf}
 use Rattle.draw.specs.Base.{barrelsOf, baseFrom, baseOf}
-use Rattle.draw.specs.Answers.{recordFault, fillFault, drawFault, fillOf, drawOf}
+use Rattle.draw.specs.Answers.{recordFault, fillFault, fillsFault, drawFault, fillOf, drawOf}
 use Rattle.ticket.specs.Ranges.{ticketOk}
 use Rattle.ticket.specs.Formulas.{indicated, factor, gross, net}
 use Rattle.ticket.specs.Answers.{volumes, ticketOf}
@@ -44,7 +45,7 @@ use Rattle.promises.specs.Figures.{prover, run, propaneProver, propane, 
 
 -- both tables by reckoning alone: what their figures are made of, unfolded once
 reckoned : Figures × Besides
-unfolding prover run propaneProver propane fillBytes fill six passes drawn ticket reportOn temperatureOk drawProverOk drawMeasureOk pressureOk coefficientOk modulusOk diameterOk wallOk compressibilityOk ctlOk ctdwOk runFactorOk volumeOk pulsesOk kFactorOk runsOk passesOk fillsOk certifiedOk scaleOk readingOk meterFactorOk sedimentOk roundedDiv rounded sumOf numberAt byteAt wordAt longAt signedOf signedAt isZeroAt zeroBetween bytesOf recordsIn areRecords firstToLast placeIf meanOf listed smallest largest qualifies groupAt qualifiesAt firstGroup metalOk pipeOk proverOk liquidOk cplFrom ctsAt cpsAt cplAt combinedAt correctedAt cts cps cpl combined ctsOf cpsOf cplOf sideOk runOk indicatedBy steelCts steelCps correctedBy atProver atMeter figuresFrom runFigures givenFault figuresFault figuresTold workedOf listOf fieldsOf bytesOfReport factorsOk firstOk jobOk reportOk isReport reportOf writeOf readOf fiveAt fillFrom fillAt fillOk unnamedOk follows ruleOk adjusted measureCts proverCts ccts drawnBy fillFigures passCount isOf drawnFor passSum passPressure waterAt correctedVolume passVolume volumesOf barrelsOf baseFrom baseOf recordFault fillFault drawFault fillOf drawOf ticketOk indicated factor gross net volumes ticketOf numerator denominator awayFromZero wholeOf singleOf temperatureOf psiOk pressureOf liveOf ofBits cast tenth panelTemperatureOf panelPressureOf ofInt div waiting lineOf isOneOf areProper shippers overShippers places reserve ceiling commons lineAt waitingOf has beyond commonsUsed put emptyBook isLineSound isSoundAt areLinesSound isSound hasRoom callFault entryFault requestFault requestOf entered afterRequest sent
+unfolding prover run propaneProver propane fillBytes fill six passes drawn ticket reportOn temperatureOk drawProverOk drawMeasureOk pressureOk coefficientOk modulusOk diameterOk wallOk compressibilityOk ctlOk ctdwOk runFactorOk volumeOk pulsesOk kFactorOk runsOk passesOk fillsOk certifiedOk scaleOk readingOk meterFactorOk sedimentOk roundedDiv rounded sumOf numberAt byteAt wordAt longAt signedOf signedAt isZeroAt zeroBetween bytesOf recordsIn areRecords firstToLast placeIf meanOf listed smallest largest qualifies groupAt qualifiesAt firstGroup metalOk pipeOk proverOk liquidOk cplFrom ctsAt cpsAt cplAt combinedAt correctedAt cts cps cpl combined ctsOf cpsOf cplOf sideOk runOk indicatedBy steelCts steelCps correctedBy atProver atMeter figuresFrom runFigures givenFault figuresFault figuresTold workedOf listOf fieldsOf bytesOfReport factorsOk firstOk jobOk reportOk isReport reportOf writeOf readOf fiveAt fillFrom fillAt fillOk unnamedOk follows ruleOk adjusted measureCts proverCts ccts drawnBy fillFigures passCount isOf drawnFor passSum passPressure waterAt correctedVolume passVolume passesFit volumeCount volumeOf firstPass volumesOf barrelsOf baseFrom baseOf recordFault fillFault fillsFault drawFault fillOf drawOf ticketOk indicated factor gross net volumes ticketOf numerator denominator awayFromZero wholeOf singleOf temperatureOf psiOk pressureOf liveOf ofBits cast tenth panelTemperatureOf panelPressureOf ofInt div waiting lineOf isOneOf areProper shippers overShippers places reserve ceiling commons lineAt waitingOf has beyond commonsUsed put emptyBook isLineSound isSoundAt areLinesSound isSound hasRoom callFault entryFault requestFault requestOf entered afterRequest sent
 reckoned = (
   record {
     cts-at-70 = refl;

@@ -14,14 +14,14 @@ use Rattle.run.specs.Answers.{told as toldRun}
 use Rattle.run.specs.declared.Worked.{Worked}
 use Rattle.run.specs.declared.Worked.the-variants as worked
 use Rattle.run.proofs.Laws.{told-one as run-one}
-use Rattle.draw.specs.Answers.{toldFill, toldPasses, toldDraw}
+use Rattle.draw.specs.Answers.{toldFill, toldCount, toldDraw}
 use Rattle.draw.specs.declared.FillAnswer.{FillAnswer}
 use Rattle.draw.specs.declared.FillAnswer.the-variants as filled
 use Rattle.draw.specs.declared.Counted.{Counted}
 use Rattle.draw.specs.declared.Counted.the-variants as counted
 use Rattle.draw.specs.declared.WaterDraw.{WaterDraw}
 use Rattle.draw.specs.declared.WaterDraw.the-variants as drawn
-use Rattle.draw.proofs.Outcome.{fill-one, passes-one, draw-one}
+use Rattle.draw.proofs.Outcome.{fill-one, count-one, draw-one}
 use Rattle.ticket.specs.Answers.{told as toldTicket}
 use Rattle.ticket.specs.declared.Measured.{Measured}
 use Rattle.ticket.specs.declared.Measured.the-variants as measured
@@ -77,9 +77,9 @@ fill-numbered : (a : FillAnswer) → Numbered (toldFill a)
 fill-numbered (filled.Figures figures) = tt
 fill-numbered (filled.Refused why) = not-zero why
 
-passes-numbered : (a : Counted) → Numbered (toldPasses a)
-passes-numbered (counted.Passes count) = tt
-passes-numbered (counted.Refused why) = not-zero why
+count-numbered : (a : Counted) → Numbered (toldCount a)
+count-numbered (counted.Volumes count) = tt
+count-numbered (counted.Refused why) = not-zero why
 
 draw-numbered : (a : WaterDraw) → Numbered (toldDraw a)
 draw-numbered (drawn.Drawn base) = tt
@@ -115,8 +115,8 @@ flattened =
       run-loses-nothing = loses-nothing run-back run-one run-numbered;
       fill-loses-nothing = loses-nothing fill-back fill-one fill-numbered;
       passes-lose-nothing = λ a b v w is. (
-        passes-one a b (held-one 0 _ _ (passes-numbered a) (passes-numbered b) (sym (passes-back v .same (toldPasses a)) ∙ ap passesIn is ∙ passes-back w .same (toldPasses b))),
-        sym (volumes-back (toldPasses a) v refl) ∙ volumes-back (toldPasses b) w is,
+        count-one a b (held-one 0 _ _ (count-numbered a) (count-numbered b) (sym (passes-back v .same (toldCount a)) ∙ ap passesIn is ∙ passes-back w .same (toldCount b))),
+        sym (volumes-back (toldCount a) v refl) ∙ volumes-back (toldCount b) w is,
       );
       draw-loses-nothing = loses-nothing draw-back draw-one draw-numbered;
       ticket-loses-nothing = loses-nothing ticket-back ticket-one ticket-numbered;

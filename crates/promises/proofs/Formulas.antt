@@ -41,13 +41,16 @@ use Rattle.run.specs.declared.Figures.{Figures}
 use Rattle.run.proofs.Laws.{RunFits, run-fits, ProverFits, prover-fits}
 use Rattle.draw.specs.Fill.{fillAt, fillOk}
 use Rattle.draw.specs.Drawn.{measureCts, proverCts, ccts, drawn, figuresOf as fillFigures}
-use Rattle.draw.specs.Passes.{isOf, pressureAt, passPressure, waterAt, correctedVolume, passVolume}
+use Rattle.draw.specs.Passes.{passCount, isOf, pressureAt, passPressure, waterAt, correctedVolume, passVolume}
 use Rattle.draw.proofs.Magnitudes.{water-ok}
+use Rattle.draw.specs.Profile.{passesFit, outPass, backPass, tripVolume, volumeOf}
 use Rattle.draw.specs.Answers.{aloneFault, fillOf}
+use Rattle.draw.specs.declared.Profile.{Profile}
+use Rattle.draw.specs.declared.Profile.the-variants.{Bidirectional}
 use Rattle.draw.specs.declared.FillFigures.{FillFigures}
 use Rattle.draw.proofs.Sound.{Sound, sound, alone-good}
 use Rattle.draw.proofs.Rule.{FillOf, within-count, every-pass, one-pressure}
-use Rattle.draw.proofs.Sums.{all-fills-once}
+use Rattle.draw.proofs.Sums.{all-fills-once, paired, all-passes-once}
 use Rattle.draw.specs.Base.{barrelsOf}
 use Rattle.draw.proofs.Fields.{fields}
 use Rattle.ticket.specs.Ranges.{ticketOk}
@@ -67,8 +70,8 @@ use Rattle.factors.specs.Answers.{combinedOf, held}
 use Rattle.factors.specs.declared.Combined.the-variants.{Value as Held, TooMany, TooLarge}
 use Rattle.promises.specs.Proving.{Acceptable, Used}
 use Rattle.promises.specs.WaterDraw as water
-use Rattle.promises.specs.WaterDraw.{InputWithin}
-use Rattle.promises.specs.Formulas.{RoundedOnce, RoundedTo, RunRounded, FillRounded, PassRounded, PassesCounted, TicketRounded}
+use Rattle.promises.specs.WaterDraw.{FillsInOrder}
+use Rattle.promises.specs.Formulas.{RoundedOnce, RoundedTo, RunRounded, FillRounded, PassRounded, PassesCounted, RoundTripsCounted, TicketRounded}
 use Rattle.promises.proofs.Judging.{fills-judged}
 use Rattle.promises.proofs.Signed.{adjusted-above}
 
@@ -227,29 +230,29 @@ water-some : (p : ℕ) → pressureOk p ≡ true → 0 < cplAt 6 (waterAt p)
 unfolding cplAt cplFrom waterAt cpl rounded pressureOk
 water-some p ok = let high : p ≤ 1500 = within-high 0 1500 p ok in at-least (100000000 * 1000000) 1 (omega arith) (omega arith)
 
-pass-pressure-ok : (prover : Prover) (s : List ℕ) → InputWithin prover s → (pass : ℕ) → pressureOk (passPressure s pass) ≡ true
+pass-pressure-ok : (prover : Prover) (s : List ℕ) → FillsInOrder prover s → (pass : ℕ) → pressureOk (passPressure s pass) ≡ true
 unfolding passPressure pressureOk
-pass-pressure-ok prover s input pass = by-place (firstPlace (isOf s pass) (recordsIn 32 s) 0) refl
+pass-pressure-ok prover s fills pass = by-place (firstPlace (isOf s pass) (recordsIn 32 s) 0) refl
   where
     by-place : (o : Option ℕ) → firstPlace (isOf s pass) (recordsIn 32 s) 0 ≡ o → pressureOk (pressureAt s o) ≡ true
     by-place none is = refl
     by-place (some i) is =
         let first : First (isOf s pass) (recordsIn 32 s) 0 i = place-first (isOf s pass) (recordsIn 32 s) 0 is in
-        fields (fillAt s i) (input .fills .records i (omega (arith, first .below)) .fields) .pressure
+        fields (fillAt s i) (fills .records i (omega (arith, first .below)) .fields) .pressure
 
-pub pass-rounded : (prover : Prover) (s : List ℕ) → InputWithin prover s → (pass : ℕ) → PassRounded prover s pass
+pub pass-rounded : (prover : Prover) (s : List ℕ) → FillsInOrder prover s → (pass : ℕ) → PassRounded prover s pass
 unfolding passVolume correctedVolume waterAt
-pass-rounded prover s input pass =
-    let ok = pass-pressure-ok prover s input pass in
+pass-rounded prover s fills pass =
+    let ok = pass-pressure-ok prover s fills pass in
     record {
-      pipe-pressure = cps-once 6 (prover .pipe) (passPressure s pass) (input .fills .settled .pipe) ok;
+      pipe-pressure = cps-once 6 (prover .pipe) (passPressure s pass) (fills .settled .pipe) ok;
       water-pressure = cpl-once 6 (waterAt (passPressure s pass)) (water-ok (passPressure s pass) ok);
-      pass-volume = once _ _ (mul-pos (pipe-some (prover .pipe) (passPressure s pass) (input .fills .settled .pipe) ok) (water-some (passPressure s pass) ok));
+      pass-volume = once _ _ (mul-pos (pipe-some (prover .pipe) (passPressure s pass) (fills .settled .pipe) ok) (water-some (passPressure s pass) ok));
     }
 
-pub passes-counted : (prover : Prover) (s : List ℕ) → InputWithin prover s → PassesCounted prover s
-passes-counted prover s input =
-    let good : Sound prover s = sound prover s (fills-judged prover s .finds-none input) in
+pub passes-counted : (prover : Prover) (s : List ℕ) → FillsInOrder prover s → PassesCounted prover s
+passes-counted prover s fills =
+    let good : Sound prover s = sound prover s (fills-judged prover s .finds-none fills) in
     record {
       fills-of-passes = within-count prover s good;
       passes-of-fills = λ pass low high.
@@ -259,15 +262,27 @@ passes-counted prover s input =
       fills-once = all-fills-once prover s good;
     }
 
+pub trips-counted : (prover : Prover) (s : List ℕ) → passesFit Bidirectional (passCount s) ≡ true → RoundTripsCounted prover s
+unfolding outPass backPass volumeOf tripVolume
+trips-counted prover s fit =
+    record {
+      odd-out = λ trip some-trip. omega arith;
+      then-back = λ trip some-trip. omega arith;
+      within-passes = λ trip few. omega (arith, paired prover s fit);
+      both-added = λ trip. refl;
+      passes-once = all-passes-once prover s fit;
+    }
+
 -- 'the same in barrels (÷ 9702, 4 places)'
 pub barrels-rounded : (base : ℕ) → RoundedTo 4 (base over 970200) (barrelsOf base)
 unfolding barrelsOf
 barrels-rounded base = to 4 base 970200 (omega arith)
 
 -- 'the base volume is their mean, rounded. The answer is that, the same in barrels': the sum of the three, and the rounded base
-pub base-rounded : (prover : Prover) (s : List ℕ) (b : BaseVolume) (used : water.Used prover s b) → RoundedOnce (sumOf (listed (water.volumeAt prover s) 3 (used .place))) 3 (b .base) × RoundedTo 4 (b .base over 970200) (b .barrels)
-base-rounded prover s b used = (
-  moved (sym (used .base)) (mean-rounded (water.volumeAt prover s) 3 (used .place) (omega arith)),
+pub base-rounded : (profile : Profile) (prover : Prover) (s : List ℕ) (b : BaseVolume) (used : water.Used profile prover s b)
+    → RoundedOnce (sumOf (listed (water.volumeAt profile prover s) 3 (used .place))) 3 (b .base) × RoundedTo 4 (b .base over 970200) (b .barrels)
+base-rounded profile prover s b used = (
+  moved (sym (used .base)) (mean-rounded (water.volumeAt profile prover s) 3 (used .place) (omega arith)),
   moved (ap barrelsOf (used .base) ∙ sym (used .barrels)) (barrels-rounded (b .base)),
 )
 

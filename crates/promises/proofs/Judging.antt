@@ -1,4 +1,4 @@
--- Demands 1 and 2 of the meanings that the contracts cite, exactly: a proving, a job, the passes of a water draw and the draw are accepted,
+-- Demands 1 and 2 of the meanings that the contracts cite, exactly: a proving, a job, the volumes of a water draw and the draw are accepted,
 -- or refused for their cause (specs/Causes).
 use mathlib.Core.Path.{_≡_, ap}
 use mathlib.Core.Logic.{_↔_, Iff·rfl}
@@ -9,7 +9,7 @@ use borrow.Author.Tests.{eqb-true, eqb-false, eq-eqb, ne-eqb, not-true, not-fals
 use lib.Dec.{eqb}
 use lib.ListN.{length}
 use Rattle.refusals.specs.Told.{demand, orElse, unless}
-use Rattle.ranges.specs.Table.{runsOk, kFactorOk, limitOk, volumeOk, runFactorOk, passesOk, fillsOk}
+use Rattle.ranges.specs.Table.{runsOk, kFactorOk, limitOk, volumeOk, runFactorOk, fillsOk}
 use Rattle.ranges.proofs.Laws.{both-first, both-second, both-true}
 use Rattle.octets.specs.Records.{recordsIn, areRecords}
 use Rattle.factors.specs.Metal.{metalOk}
@@ -22,13 +22,15 @@ use Rattle.run.specs.Answers.{figuresFault}
 use Rattle.proving.specs.Judging.{runsIn, settingsFault, recordFault, runFault, inputFault}
 use Rattle.proving.specs.Job.{firstFive, foundOf, reportAt, jobOf}
 use Rattle.draw.specs.Fill.{fillAt, fillOk, unnamedOk as fillUnnamedOk, ruleOk}
-use Rattle.draw.specs.Passes.{passCount, volumesOf}
+use Rattle.draw.specs.Passes.{passCount}
+use Rattle.draw.specs.Profile.{passesFit, volumeCount, volumesOf}
 use Rattle.draw.specs.Base.{baseOf}
-use Rattle.draw.specs.Answers.{recordFault as recordFaultOfFill, fillFault, drawFault, passesOf, drawOf}
+use Rattle.draw.specs.Answers.{recordFault as recordFaultOfFill, fillFault, fillsFault, drawFault, countOf, drawOf}
+use Rattle.draw.specs.declared.Profile.{Profile}
 use Rattle.promises.specs.Records.{Lent, Every}
 use Rattle.promises.specs.Proving.{Asked, SettingsInOrder, RunInOrder, RunWithin, InputWithin, FiguresWithin, FiveMeet, Acceptable}
 use Rattle.promises.specs.WaterDraw as water
-use Rattle.promises.specs.WaterDraw.{FillInOrder, ThreeMeet}
+use Rattle.promises.specs.WaterDraw.{FillInOrder, FillsInOrder, ThreeMeet}
 use Rattle.promises.specs.Causes.{ProvingCause, JobCause, PassesCause, DrawCause}
 use Rattle.promises.specs.Causes as cause
 use Rattle.promises.proofs.Reasons.{At, here, InTurn, sooner, later, OfFirst, of, Exactly, decided, demanded, tested, tested-both, in-turn, in-words, first-to-last, Tells, by-judging, by-unless, tells-in-words, tells-nine}
@@ -178,62 +180,67 @@ module _ (prover : Prover) (s : List ℕ) where
       in-words ((λ ok. record { fields = ok .0 .0; unnamed = ok .0 .1; rule = ok .1 }), (λ ok. ((ok .fields, ok .unnamed), ok .rule))) (λ _ _. Iff·rfl)
       (in-turn (in-turn (tested (fillOk (fillAt s i)) 5 (i + 1)) (tested (fillUnnamedOk s i) 2 (i + 1))) (tested (ruleOk s i) 6 (i + 1)))
 
-  -- 1, 3, the records, and 1 for the passes
-  abbrev FillsCause : ℕ → ℕ → Type 0
-  FillsCause =
-      InTurn (At 1 0 (Lent fillsOk 32 s → ⊥)) (Lent fillsOk 32 s)
-      (InTurn (At 3 0 (Settings ≡ false)) (Settings ≡ true)
-      (InTurn (OfFirst (recordsIn 32 s) (FillInOrder s) FillCause) (Every (recordsIn 32 s) (FillInOrder s)) (At 1 0 (passesOk (passCount s) ≡ false))))
-
   settled : Lent fillsOk 32 s → Settings ≡ true → water.SettingsInOrder prover s
   settled lent ok = record { lent = lent; metal = both-first (metalOk (prover .metal)) _ ok; pipe = both-second (metalOk (prover .metal)) _ ok }
 
   set : water.SettingsInOrder prover s → Settings ≡ true
   set ok = both-true (ok .metal) (ok .pipe)
 
-  fills-named : {number at : ℕ} → FillsCause number at → PassesCause prover s number at
-  fills-named (sooner (here out)) = cause.fills-lent out
-  fills-named (later lent (sooner (here out))) = cause.metal-or-pipe lent out
-  fills-named (later lent (later ok (sooner (of i h before (sooner (sooner (here out))))))) = cause.fill-field (settled lent ok) i h before out
-  fills-named (later lent (later ok (sooner (of i h before (sooner (later fields (here out))))))) = cause.fill-unnamed-byte (settled lent ok) i h before fields out
-  fills-named (later lent (later ok (sooner (of i h before (later both (here out)))))) = cause.pass-rule (settled lent ok) i h before (both .0) (both .1) out
-  fills-named (later lent (later ok (later records (here out)))) = cause.passes-drawn (record { settled = settled lent ok; records = records }) out
+  -- 1, 3 and the records
+  abbrev FillsCause : ℕ → ℕ → Type 0
+  FillsCause = InTurn (At 1 0 (Lent fillsOk 32 s → ⊥)) (Lent fillsOk 32 s) (InTurn (At 3 0 (Settings ≡ false)) (Settings ≡ true) (OfFirst (recordsIn 32 s) (FillInOrder s) FillCause))
 
-  fills-meant : {number at : ℕ} → PassesCause prover s number at → FillsCause number at
-  fills-meant (cause.fills-lent out) = sooner (here out)
-  fills-meant (cause.metal-or-pipe lent out) = later lent (sooner (here out))
-  fills-meant (cause.fill-field ok i h before out) = later (ok .lent) (later (set ok) (sooner (of i h before (sooner (sooner (here out))))))
-  fills-meant (cause.fill-unnamed-byte ok i h before fields out) = later (ok .lent) (later (set ok) (sooner (of i h before (sooner (later fields (here out))))))
-  fills-meant (cause.pass-rule ok i h before fields unnamed out) = later (ok .lent) (later (set ok) (sooner (of i h before (later (fields, unnamed) (here out)))))
-  fills-meant (cause.passes-drawn fills out) = later (fills .settled .lent) (later (set (fills .settled)) (later (fills .records) (here out)))
-
-  pub fills-judged : Exactly (water.InputWithin prover s) (PassesCause prover s) (drawFault prover s)
-  unfolding drawFault
+  pub fills-judged : Exactly (FillsInOrder prover s) FillsCause (fillsFault prover s)
+  unfolding fillsFault
   fills-judged =
-      in-words (
-        (λ ok. record { fills = record { settled = settled (ok .0) (ok .1 .0); records = ok .1 .1 .0 }; passes = ok .1 .1 .1 }),
-        (λ ok. (ok .fills .settled .lent, (set (ok .fills .settled), (ok .fills .records, ok .passes)))),
-      ) (λ _ _. (fills-named, fills-meant))
-      (in-turn (lent-judged fillsOk 32 s) (in-turn (tested Settings 3 0) (in-turn (first-to-last (fillFault s) (recordsIn 32 s) fill-judged) (tested (passesOk (passCount s)) 1 0))))
+      in-words ((λ ok. record { settled = settled (ok .0) (ok .1 .0); records = ok .1 .1 }), (λ ok. (ok .settled .lent, (set (ok .settled), ok .records)))) (λ _ _. Iff·rfl)
+      (in-turn (lent-judged fillsOk 32 s) (in-turn (tested Settings 3 0) (first-to-last (fillFault s) (recordsIn 32 s) fill-judged)))
 
-  pub passes-tells : Tells (water.InputWithin prover s) (PassesCause prover s) (passesOf prover s)
-  unfolding passesOf
-  passes-tells = by-judging (passCount s) fills-judged
+module _ (profile : Profile) (prover : Prover) (s : List ℕ) where
+  -- these, and 1 for the passes
+  abbrev CountCause : ℕ → ℕ → Type 0
+  CountCause = InTurn (FillsCause prover s) (FillsInOrder prover s) (At 1 0 (passesFit profile (passCount s) ≡ false))
 
-  -- the draw: the passes' cause, or 9
+  count-named : {number at : ℕ} → CountCause number at → PassesCause profile prover s number at
+  count-named (sooner (sooner (here out))) = cause.fills-lent out
+  count-named (sooner (later lent (sooner (here out)))) = cause.metal-or-pipe lent out
+  count-named (sooner (later lent (later ok (of i h before (sooner (sooner (here out))))))) = cause.fill-field (settled prover s lent ok) i h before out
+  count-named (sooner (later lent (later ok (of i h before (sooner (later fields (here out))))))) = cause.fill-unnamed-byte (settled prover s lent ok) i h before fields out
+  count-named (sooner (later lent (later ok (of i h before (later both (here out)))))) = cause.pass-rule (settled prover s lent ok) i h before (both .0) (both .1) out
+  count-named (later fills (here out)) = cause.passes-drawn fills out
+
+  count-meant : {number at : ℕ} → PassesCause profile prover s number at → CountCause number at
+  count-meant (cause.fills-lent out) = sooner (sooner (here out))
+  count-meant (cause.metal-or-pipe lent out) = sooner (later lent (sooner (here out)))
+  count-meant (cause.fill-field ok i h before out) = sooner (later (ok .lent) (later (set prover s ok) (of i h before (sooner (sooner (here out))))))
+  count-meant (cause.fill-unnamed-byte ok i h before fields out) = sooner (later (ok .lent) (later (set prover s ok) (of i h before (sooner (later fields (here out))))))
+  count-meant (cause.pass-rule ok i h before fields unnamed out) = sooner (later (ok .lent) (later (set prover s ok) (of i h before (later (fields, unnamed) (here out)))))
+  count-meant (cause.passes-drawn fills out) = later fills (here out)
+
+  draw-judged : Exactly (water.InputWithin profile prover s) (PassesCause profile prover s) (drawFault profile prover s)
+  unfolding drawFault
+  draw-judged =
+      in-words ((λ ok. record { fills = ok .0; passes = ok .1 }), (λ ok. (ok .fills, ok .passes))) (λ _ _. (count-named, count-meant))
+      (in-turn (fills-judged prover s) (tested (passesFit profile (passCount s)) 1 0))
+
+  pub volumes-tell : Tells (water.InputWithin profile prover s) (PassesCause profile prover s) (countOf profile prover s)
+  unfolding countOf
+  volumes-tell = by-judging (volumeCount profile s) draw-judged
+
+  -- the draw: its volumes' cause, or 9
   abbrev ThreeCause : ℕ → ℕ → Type 0
-  ThreeCause = InTurn (PassesCause prover s) (water.InputWithin prover s) (At 9 0 (((at : ℕ) × ThreeMeet prover s at) → ⊥))
+  ThreeCause = InTurn (PassesCause profile prover s) (water.InputWithin profile prover s) (At 9 0 (((at : ℕ) × ThreeMeet profile prover s at) → ⊥))
 
-  three-named : {number at : ℕ} → ThreeCause number at → DrawCause prover s number at
+  three-named : {number at : ℕ} → ThreeCause number at → DrawCause profile prover s number at
   three-named (sooner why) = cause.in-passes why
-  three-named (later input (here none-meet)) = cause.no-three-passes input (λ at three. none-meet (at, three))
+  three-named (later input (here none-meet)) = cause.no-three input (λ at three. none-meet (at, three))
 
-  three-meant : {number at : ℕ} → DrawCause prover s number at → ThreeCause number at
+  three-meant : {number at : ℕ} → DrawCause profile prover s number at → ThreeCause number at
   three-meant (cause.in-passes why) = sooner why
-  three-meant (cause.no-three-passes input none-meet) = later input (here (λ three. none-meet (three .0) (three .1)))
+  three-meant (cause.no-three input none-meet) = later input (here (λ three. none-meet (three .0) (three .1)))
 
-  pub draw-tells : Tells (water.Acceptable prover s) (DrawCause prover s) (drawOf prover s)
+  pub draw-tells : Tells (water.Acceptable profile prover s) (DrawCause profile prover s) (drawOf profile prover s)
   unfolding drawOf baseOf
   draw-tells =
       tells-in-words ((λ ok. record { input = ok .0; place = ok .1 .0; three = ok .1 .1 }), (λ ok. (ok .input, (ok .place, ok .three)))) (λ _ _. (three-named, three-meant))
-      (by-unless fills-judged (tells-nine (firstGroup 2 3 (volumesOf prover s)) _ (λ at is. (at, first-three-meet prover s at is)) (λ is three. no-three prover s is (three .0) (three .1))))
+      (by-unless draw-judged (tells-nine (firstGroup 2 3 (volumesOf profile prover s)) _ (λ at is. (at, first-three-meet profile prover s at is)) (λ is three. no-three profile prover s is (three .0) (three .1))))

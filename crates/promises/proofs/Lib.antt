@@ -1,4 +1,5 @@
 pub mod Figures
+pub mod OutAndBack
 pub mod Endings
 pub mod Demand1
 pub mod Groups

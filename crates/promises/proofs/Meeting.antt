@@ -1,4 +1,4 @@
--- The first five runs and the first three passes that meet the limit: what was found, of the factors and volumes by their places.
+-- The first five runs and the first three volumes of a draw that meet the limit: what was found, of the factors and volumes by their places.
 use mathlib.Core.Path.{_≡_, refl, ap, _∙_}
 use mathlib.Core.List.{List, [], _∷_}
 use mathlib.Core.Option.{none, some}
@@ -13,7 +13,8 @@ use Rattle.group.proofs.Groups.{first-found}
 use Rattle.report.specs.Record.{listOf}
 use Rattle.proving.specs.Judging.{runsIn}
 use Rattle.proving.specs.Job.{factorAt, factorsOf, firstFive, fiveAt}
-use Rattle.draw.specs.Passes.{passCount, passVolume, volumesOf}
+use Rattle.draw.specs.Profile.{volumeCount, volumeOf, volumesOf}
+use Rattle.draw.specs.declared.Profile.{Profile}
 use Rattle.promises.specs.Proving.{FiveMeet}
 use Rattle.promises.specs.WaterDraw.{volumeAt, ThreeMeet}
 use Rattle.promises.proofs.Groups.{Least, first-least, some-found}
@@ -51,22 +52,22 @@ module _ (prover : Prover) (k : ℕ) (s : List ℕ) where
     pub first-five-meet : (at : ℕ) → firstFive prover k limit s ≡ some at → FiveMeet prover k limit s at
     first-five-meet at is = let least = least-five at is in record { room = omega (arith, least .room, factor-count); meet = least .meet }
 
-module _ (prover : Prover) (s : List ℕ) where
-  pub volume-count : length (volumesOf prover s) ≡ passCount s
+module _ (profile : Profile) (prover : Prover) (s : List ℕ) where
+  pub volume-count : length (volumesOf profile prover s) ≡ volumeCount profile s
   unfolding volumesOf
-  volume-count = listed-length (passVolume prover s) (passCount s) 1
+  volume-count = listed-length (volumeOf profile prover s) (volumeCount profile s) 1
 
-  pub volume-values : (i : ℕ) → i < length (volumesOf prover s) → getD (volumesOf prover s) i 0 ≡ volumeAt prover s i
+  pub volume-values : (i : ℕ) → i < length (volumesOf profile prover s) → getD (volumesOf profile prover s) i 0 ≡ volumeAt profile prover s i
   unfolding volumesOf volumeAt
-  volume-values i h = listed-value (passVolume prover s) (passCount s) 1 i (omega (arith, listed-length (passVolume prover s) (passCount s) 1)) ∙ ap (passVolume prover s) (omega arith)
+  volume-values i h = listed-value (volumeOf profile prover s) (volumeCount profile s) 1 i (omega (arith, listed-length (volumeOf profile prover s) (volumeCount profile s) 1)) ∙ ap (volumeOf profile prover s) (omega arith)
 
   -- where no group is found, no three meet the limit
-  pub no-three : firstGroup 2 3 (volumesOf prover s) ≡ none → (at : ℕ) → ThreeMeet prover s at → ⊥
-  no-three is at three = some-found (volumeAt prover s) (volumesOf prover s) volume-values 3 2 at (omega (arith, three .room, volume-count)) (three .meet) is
+  pub no-three : firstGroup 2 3 (volumesOf profile prover s) ≡ none → (at : ℕ) → ThreeMeet profile prover s at → ⊥
+  no-three is at three = some-found (volumeAt profile prover s) (volumesOf profile prover s) volume-values 3 2 at (omega (arith, three .room, volume-count)) (three .meet) is
 
   -- where one is, it is the first three that do
-  pub least-three : (at : ℕ) → firstGroup 2 3 (volumesOf prover s) ≡ some at → Least (volumeAt prover s) (volumesOf prover s) volume-values 3 2 at
-  least-three at is = first-least (volumeAt prover s) (volumesOf prover s) volume-values 3 2 (first-found 2 3 (volumesOf prover s) is)
+  pub least-three : (at : ℕ) → firstGroup 2 3 (volumesOf profile prover s) ≡ some at → Least (volumeAt profile prover s) (volumesOf profile prover s) volume-values 3 2 at
+  least-three at is = first-least (volumeAt profile prover s) (volumesOf profile prover s) volume-values 3 2 (first-found 2 3 (volumesOf profile prover s) is)
 
-  pub first-three-meet : (at : ℕ) → firstGroup 2 3 (volumesOf prover s) ≡ some at → ThreeMeet prover s at
+  pub first-three-meet : (at : ℕ) → firstGroup 2 3 (volumesOf profile prover s) ≡ some at → ThreeMeet profile prover s at
   first-three-meet at is = let least = least-three at is in record { room = omega (arith, least .room, volume-count); meet = least .meet }

@@ -6,7 +6,7 @@ use Rattle.group.proofs.Spreads.{spread-one}
 use Rattle.factors.proofs.Values.{told-one as factor-one}
 use Rattle.run.proofs.Laws.{told-one as worked-one}
 use Rattle.report.proofs.Laws.{told-one as report-one}
-use Rattle.draw.proofs.Outcome.{fill-one, passes-one, draw-one}
+use Rattle.draw.proofs.Outcome.{fill-one, count-one, draw-one}
 use Rattle.ticket.proofs.Laws.{told-one as ticket-one}
 use Rattle.live.proofs.Answers.{told-one as live-one, panel-one}
 use Rattle.book.proofs.Outcomes.{changed-one, handout-one}
@@ -40,6 +40,7 @@ one-outcome =
       ranges-is-limit-one = (λ _ _. tt, λ _ _ _ _ _ _. same);
       ranges-are-runs-one = (λ _ _. tt, λ _ _ _ _ _ _. same);
       ranges-are-passes-one = (λ _ _. tt, λ _ _ _ _ _ _. same);
+      ranges-are-paired-passes-one = (λ _ _. tt, λ _ _ _ _ _ _. same);
       ranges-are-fills-one = (λ _ _. tt, λ _ _ _ _ _ _. same);
       ranges-is-certified-one = (λ _ _. tt, λ _ _ _ _ _ _. same);
       ranges-is-scale-one = (λ _ _. tt, λ _ _ _ _ _ _. same);
@@ -89,7 +90,7 @@ one-outcome =
       proving-prove-left = λ _ _ _ _ _ _ p p′. same (p .1) (p′ .1);
       proving-accept-one = (λ _ _. tt, λ _ _ _ _ _ _. same);
       draw-fill-one = (λ _ _. tt, λ _ _ r q _ _ p p′. fill-one r q (same p p′));
-      draw-passes-one = (λ _ _. tt, λ _ _ r q _ _ p p′ i. record { answer = passes-one (r .answer) (q .answer) (same (p .0) (p′ .0)) i; volumes = same (p .1) (p′ .1) i });
+      draw-volumes-one = (λ _ _. tt, λ _ _ r q _ _ p p′ i. record { answer = count-one (r .answer) (q .answer) (same (p .0) (p′ .0)) i; volumes = same (p .1) (p′ .1) i });
       draw-draw-one = (λ _ _. tt, λ _ _ r q _ _ p p′. draw-one r q (same p p′));
       ticket-work-out-one = (λ _ _. tt, λ _ _ r q _ _ p p′. ticket-one r q (same p p′));
       live-convert-one = (λ _ _. tt, λ _ _ r q _ _ p p′. live-one r q (same p p′));

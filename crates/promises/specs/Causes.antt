@@ -5,7 +5,7 @@ use mathlib.Core.Path.{_≡_}
 use mathlib.Core.Bool.{true, false, _&&_}
 use mathlib.Core.List.{List}
 use Prim.Native.Nat.{ℕ, _+_, _<_}
-use Rattle.ranges.specs.Table.{runsOk, kFactorOk, limitOk, volumeOk, runFactorOk, passesOk, fillsOk}
+use Rattle.ranges.specs.Table.{runsOk, kFactorOk, limitOk, volumeOk, runFactorOk, fillsOk}
 use Rattle.octets.specs.Records.{recordsIn}
 use Rattle.factors.specs.Metal.{metalOk}
 use Rattle.factors.specs.Prover.{pipeOk, proverOk}
@@ -15,6 +15,8 @@ use Rattle.run.specs.Figures.{figuresOf}
 use Rattle.proving.specs.Judging.{runsIn}
 use Rattle.draw.specs.Fill.{fillAt, fillOk, unnamedOk as fillUnnamedOk, ruleOk}
 use Rattle.draw.specs.Passes.{passCount}
+use Rattle.draw.specs.Profile.{passesFit}
+use Rattle.draw.specs.declared.Profile.{Profile}
 use Rattle.promises.specs.Records.{Lent, Every}
 use Rattle.promises.specs.Proving.{Asked, SettingsInOrder, RunInOrder, RunWithin, InputWithin, FiguresWithin, FiveMeet}
 use Rattle.promises.specs.WaterDraw as water
@@ -44,19 +46,19 @@ pub data JobCause (request : ℕ) (prover : Prover) (k limit : ℕ) (s : List �
   in-proving : {number at : ℕ} → Asked request size → ProvingCause prover k limit s number at → JobCause request prover k limit s size number at
 
 -- why the passes of a water draw are not worked out: it 'drops 14, 22, 4 and the base volume in 3'; records 'each with 5, 2, 6'; 'more or
--- fewer passes than 3 to 20 is 1, found after the records'
-pub data PassesCause (prover : Prover) (s : List ℕ) : ℕ → ℕ → Type 0 where
-  fills-lent : (Lent fillsOk 32 s → ⊥) → PassesCause prover s 1 0
-  metal-or-pipe : Lent fillsOk 32 s → (metalOk (prover .metal) && pipeOk (prover .pipe)) ≡ false → PassesCause prover s 3 0
+-- fewer passes than 3 to 20 is 1, found after the records'; 02, of round trips: 'an odd count of passes, or a count outside 6 to 20, is 1'
+pub data PassesCause (profile : Profile) (prover : Prover) (s : List ℕ) : ℕ → ℕ → Type 0 where
+  fills-lent : (Lent fillsOk 32 s → ⊥) → PassesCause profile prover s 1 0
+  metal-or-pipe : Lent fillsOk 32 s → (metalOk (prover .metal) && pipeOk (prover .pipe)) ≡ false → PassesCause profile prover s 3 0
   fill-field : water.SettingsInOrder prover s → (i : ℕ) → i < recordsIn 32 s → Every i (FillInOrder s)
-      → fillOk (fillAt s i) ≡ false → PassesCause prover s 5 (i + 1)
+      → fillOk (fillAt s i) ≡ false → PassesCause profile prover s 5 (i + 1)
   fill-unnamed-byte : water.SettingsInOrder prover s → (i : ℕ) → i < recordsIn 32 s → Every i (FillInOrder s)
-      → fillOk (fillAt s i) ≡ true → fillUnnamedOk s i ≡ false → PassesCause prover s 2 (i + 1)
+      → fillOk (fillAt s i) ≡ true → fillUnnamedOk s i ≡ false → PassesCause profile prover s 2 (i + 1)
   pass-rule : water.SettingsInOrder prover s → (i : ℕ) → i < recordsIn 32 s → Every i (FillInOrder s)
-      → fillOk (fillAt s i) ≡ true → fillUnnamedOk s i ≡ true → ruleOk s i ≡ false → PassesCause prover s 6 (i + 1)
-  passes-drawn : FillsInOrder prover s → passesOk (passCount s) ≡ false → PassesCause prover s 1 0
+      → fillOk (fillAt s i) ≡ true → fillUnnamedOk s i ≡ true → ruleOk s i ≡ false → PassesCause profile prover s 6 (i + 1)
+  passes-drawn : FillsInOrder prover s → passesFit profile (passCount s) ≡ false → PassesCause profile prover s 1 0
 
 -- why a water draw is refused: its passes' cause, 'then 9'
-pub data DrawCause (prover : Prover) (s : List ℕ) : ℕ → ℕ → Type 0 where
-  in-passes : {number at : ℕ} → PassesCause prover s number at → DrawCause prover s number at
-  no-three-passes : water.InputWithin prover s → ((at : ℕ) → ThreeMeet prover s at → ⊥) → DrawCause prover s 9 0
+pub data DrawCause (profile : Profile) (prover : Prover) (s : List ℕ) : ℕ → ℕ → Type 0 where
+  in-passes : {number at : ℕ} → PassesCause profile prover s number at → DrawCause profile prover s number at
+  no-three : water.InputWithin profile prover s → ((at : ℕ) → ThreeMeet profile prover s at → ⊥) → DrawCause profile prover s 9 0

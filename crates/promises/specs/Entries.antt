@@ -2,7 +2,7 @@
 -- number from the table ..' and 'A refusal writes nothing into a lent buffer and hands the book of waiting requests back unchanged.'
 -- `f.Post κ a r x` is what the function f ensures of any arguments a at entry, the answer r and the arguments x at exit. The arguments of
 -- `prove` are request, prover, K, limit, records and buffer; of `accept` prover, K, limit and records; of `write` number, runs, first run,
--- factors and buffer; of `work_out` prover, K, run and record; of `passes` and `draw` prover and records.
+-- factors and buffer; of `work_out` prover, K, run and record; of `volumes` and `draw` profile, prover and records.
 use mathlib.Core.Path.{_≡_}
 use mathlib.Core.List.{[]}
 use Prim.Native.Nat.{ℕ}
@@ -13,7 +13,7 @@ use Rattle.run.specs.Answers.{told as toldRun}
 use Rattle.report.specs.Judged.{told as toldReport}
 use Rattle.proving.specs.Judging.{runsIn}
 use Rattle.proving.specs.Job.{foundOf}
-use Rattle.draw.specs.Answers.{toldFill, toldPasses, toldDraw}
+use Rattle.draw.specs.Answers.{toldFill, toldCount, toldDraw}
 use Rattle.ticket.specs.Answers.{told as toldTicket}
 use Rattle.live.specs.Live.{told as toldLive}
 use Rattle.live.specs.Panel.{told as toldPanel}
@@ -28,7 +28,7 @@ use Rattle.report.proofs.read.Reads as read
 use Rattle.proving.proofs.prove.Reads as prove
 use Rattle.proving.proofs.accept.Reads as accept
 use Rattle.draw.proofs.fill.Reads as fill
-use Rattle.draw.proofs.passes.Reads as passes
+use Rattle.draw.proofs.volumes.Reads as volumes
 use Rattle.draw.proofs.draw.Reads as draw
 use Rattle.ticket.proofs.work_out.Reads as ticket
 use Rattle.live.proofs.convert.Reads as convert
@@ -57,8 +57,8 @@ pub record Entries : Type 0 where
   pub write-leaves : (κ : _) (a : _) (r : _) (x : _) {number at : ℕ} → write.Post κ a r x → toldReport r ≡ refused number at → fifth x .now ≡ fifth a .now
   pub read-entry : (κ : _) (a : _) (r : _) (x : _) → read.Post κ a r x → Ends readNumbers 0 0 (toldReport r)
   pub fill-entry : (κ : _) (a : _) (r : _) (x : _) → fill.Post κ a r x → Ends fillNumbers 1 1 (toldFill r)
-  pub passes-entry : (κ : _) (a : _) (r : _) (x : _) → passes.Post κ a r x → Ends passesNumbers 1 (recordsIn 32 (second a .now)) (toldPasses (r .answer))
-  pub draw-entry : (κ : _) (a : _) (r : _) (x : _) → draw.Post κ a r x → Ends drawNumbers 1 (recordsIn 32 (second a .now)) (toldDraw r)
+  pub volumes-entry : (κ : _) (a : _) (r : _) (x : _) → volumes.Post κ a r x → Ends passesNumbers 1 (recordsIn 32 (third a .now)) (toldCount (r .answer))
+  pub draw-entry : (κ : _) (a : _) (r : _) (x : _) → draw.Post κ a r x → Ends drawNumbers 1 (recordsIn 32 (third a .now)) (toldDraw r)
   pub ticket-entry : (κ : _) (a : _) (r : _) (x : _) → ticket.Post κ a r x → Ends ticketNumbers 0 0 (toldTicket r)
   pub convert-entry : (κ : _) (a : _) (r : _) (x : _) → convert.Post κ a r x → Ends liveNumbers 0 0 (toldLive r)
   pub show-temperature-entry : (κ : _) (a : _) (r : _) (x : _) → show-temperature.Post κ a r x → Ends panelNumbers 0 0 (toldPanel r)

@@ -14,8 +14,9 @@ use Rattle.run.specs.Answers.{shownOf}
 use Rattle.report.specs.Judged.{writeOf, readOf}
 use Rattle.proving.specs.Judging.{runsIn}
 use Rattle.proving.specs.Job.{jobOf, foundOf, acceptedOf}
-use Rattle.draw.specs.Passes.{volumesOf}
-use Rattle.draw.specs.Answers.{fillOf, passesOf, drawOf}
+use Rattle.draw.specs.Profile.{volumesOf}
+use Rattle.draw.specs.Answers.{fillOf, countOf, drawOf}
+use Rattle.draw.specs.declared.Profile.the-variants.{Unidirectional, Bidirectional}
 use Rattle.ticket.specs.Answers.{ticketOf}
 use Rattle.live.specs.Live.{liveOf}
 use Rattle.live.specs.Panel.{panelTemperatureOf, panelPressureOf}
@@ -40,7 +41,9 @@ use Rattle.api.proofs.reports.endakuro_write.Reads as write
 use Rattle.api.proofs.reports.endakuro_read.Reads as read
 use Rattle.api.proofs.water.endakuro_fill.Reads as fill
 use Rattle.api.proofs.water.endakuro_passes.Reads as passes
+use Rattle.api.proofs.water.endakuro_trips.Reads as trips
 use Rattle.api.proofs.water.endakuro_draw.Reads as draw
+use Rattle.api.proofs.water.endakuro_bidirectional.Reads as bidirectional
 use Rattle.api.proofs.tickets.endakuro_ticket.Reads as ticket
 use Rattle.api.proofs.readings.endakuro_live.Reads as live
 use Rattle.api.proofs.panel.endakuro_panel_temperature.Reads as panel-temperature
@@ -71,11 +74,16 @@ pub record EntriesC : Type 0 where
   pub write-leaves : (κ : _) (a : _) (r : _) (x : _) → write.Post κ a r x → LeavesAsFound (reportIn r) (fifth x .now) (fifth a .now)
   pub read-entry : (κ : _) (a : _) (r : _) (x : _) → read.Post κ a r x → FlatEnds readNumbers 0 0 noReport (reportIn r) (readOf (first a .now))
   pub fill-entry : (κ : _) (a : _) (r : _) (x : _) → fill.Post κ a r x → FlatEnds fillNumbers 1 1 noFill (fillIn r) (fillOf (metalBy (first a) (second a)) (third a .now))
-  pub passes-entry : (κ : _) (a : _) (r : _) (x : _) → passes.Post κ a r x → FlatEnds passesNumbers 1 (recordsIn 32 (second a .now)) 0 (passesIn r) (passesOf (proverBy (first a)) (second a .now))
+  pub passes-entry : (κ : _) (a : _) (r : _) (x : _) → passes.Post κ a r x → FlatEnds passesNumbers 1 (recordsIn 32 (second a .now)) 0 (passesIn r) (countOf Unidirectional (proverBy (first a)) (second a .now))
   -- and the volumes: of the passes when done, all zero when refused
-  pub passes-volumes : (κ : _) (a : _) (r : _) (x : _) → passes.Post κ a r x → r .number ≡ 0 → r .volumes ≡ zerosAfter 20 (volumesOf (proverBy (first a)) (second a .now))
+  pub passes-volumes : (κ : _) (a : _) (r : _) (x : _) → passes.Post κ a r x → r .number ≡ 0 → r .volumes ≡ zerosAfter 20 (volumesOf Unidirectional (proverBy (first a)) (second a .now))
   pub passes-no-volumes : (κ : _) (a : _) (r : _) (x : _) → passes.Post κ a r x → (r .number ≡ 0 → ⊥) → r .volumes ≡ replicate 20 0
-  pub draw-entry : (κ : _) (a : _) (r : _) (x : _) → draw.Post κ a r x → FlatEnds drawNumbers 1 (recordsIn 32 (second a .now)) noBase (baseIn r) (drawOf (proverBy (first a)) (second a .now))
+  -- round trips likewise
+  pub trips-entry : (κ : _) (a : _) (r : _) (x : _) → trips.Post κ a r x → FlatEnds passesNumbers 1 (recordsIn 32 (second a .now)) 0 (passesIn r) (countOf Bidirectional (proverBy (first a)) (second a .now))
+  pub trips-volumes : (κ : _) (a : _) (r : _) (x : _) → trips.Post κ a r x → r .number ≡ 0 → r .volumes ≡ zerosAfter 20 (volumesOf Bidirectional (proverBy (first a)) (second a .now))
+  pub trips-no-volumes : (κ : _) (a : _) (r : _) (x : _) → trips.Post κ a r x → (r .number ≡ 0 → ⊥) → r .volumes ≡ replicate 20 0
+  pub draw-entry : (κ : _) (a : _) (r : _) (x : _) → draw.Post κ a r x → FlatEnds drawNumbers 1 (recordsIn 32 (second a .now)) noBase (baseIn r) (drawOf Unidirectional (proverBy (first a)) (second a .now))
+  pub bidirectional-entry : (κ : _) (a : _) (r : _) (x : _) → bidirectional.Post κ a r x → FlatEnds drawNumbers 1 (recordsIn 32 (second a .now)) noBase (baseIn r) (drawOf Bidirectional (proverBy (first a)) (second a .now))
   pub ticket-entry : (κ : _) (a : _) (r : _) (x : _) → ticket.Post κ a r x → FlatEnds ticketNumbers 0 0 noVolumes (volumesIn r) (ticketOf (ticketBy (first a)))
   pub live-entry : (κ : _) (a : _) (r : _) (x : _) → live.Post κ a r x → FlatEnds liveNumbers 0 0 noReading (readingIn r) (liveOf (first a) (second a))
   pub panel-temperature-entry : (κ : _) (a : _) (r : _) (x : _) → panel-temperature.Post κ a r x → FlatEnds panelNumbers 0 0 nothingShown (shownIn r) (panelTemperatureOf (first a))

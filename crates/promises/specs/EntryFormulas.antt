@@ -3,7 +3,7 @@
 -- entry, the answer r and the arguments x at exit. The arguments of `cts` are temperature, metal and places; of `cps` pressure, pipe and
 -- places; of `cpl` liquid and places; of `combine` factors and places; the others' are as in Entries.antt.
 use mathlib.Core.Path.{_≡_}
-use Prim.Native.Nat.{ℕ, _+_}
+use Prim.Native.Nat.{ℕ, _+_, _%_}
 use Rattle.refusals.specs.Told.{done}
 use Rattle.exact.specs.Rounding.{_over_}
 use Rattle.exact.specs.Words.{sumOf}
@@ -24,10 +24,12 @@ use Rattle.report.specs.declared.Answer.the-variants.{Fields}
 use Rattle.proving.specs.Judging.{runsIn}
 use Rattle.draw.specs.Fill.{fillAt}
 use Rattle.draw.specs.Drawn.{figuresOf as fillFigures}
+use Rattle.draw.specs.Profile.{firstPass}
 use Rattle.draw.specs.Answers.{toldFill}
 use Rattle.draw.specs.declared.FillFigures.{FillFigures}
 use Rattle.draw.specs.declared.BaseVolume.{BaseVolume}
 use Rattle.draw.specs.declared.WaterDraw.the-variants.{Drawn}
+use Rattle.draw.specs.declared.Profile.the-variants.{Bidirectional}
 use Rattle.ticket.specs.Answers.{told as toldTicket}
 use Rattle.ticket.specs.declared.Volumes.{Volumes}
 use Rattle.factors.proofs.cts.Reads as entry-cts
@@ -42,7 +44,7 @@ use Rattle.ticket.proofs.work_out.Reads as ticket
 use Rattle.promises.specs.Arguments.{first, second, third, fifth}
 use Rattle.promises.specs.Records.{Every}
 use Rattle.promises.specs.WaterDraw.{volumeAt}
-use Rattle.promises.specs.Formulas.{RoundedOnce, RoundedTo, RunRounded, FillRounded, PassRounded, PassesCounted, TicketRounded}
+use Rattle.promises.specs.Formulas.{RoundedOnce, RoundedTo, RunRounded, FillRounded, PassRounded, PassesCounted, RoundTripsCounted, TicketRounded}
 
 pub record EntryFormulas : Type 0 where
   -- correction factors, at the places asked for
@@ -62,9 +64,13 @@ pub record EntryFormulas : Type 0 where
   pub fill-of-entry : (κ : _) (a : _) (r : _) (x : _) {f : FillFigures} → fill.Post κ a r x → toldFill r ≡ done f → FillRounded (first a) (second a .now) 0 f
   -- every fill and every pass of an accepted draw; 'the base volume is their mean, rounded', and 'the same in barrels (÷ 9702, 4 places)'
   pub fills-of-draw : (κ : _) (a : _) (r : _) (x : _) (base : BaseVolume) → draw.Post κ a r x → r ≡ Drawn base
-      → Every (recordsIn 32 (second a .now)) (λ i. FillRounded (first a .metal) (second a .now) i (fillFigures (first a .metal) (fillAt (second a .now) i)))
+      → Every (recordsIn 32 (third a .now)) (λ i. FillRounded (second a .metal) (third a .now) i (fillFigures (second a .metal) (fillAt (third a .now) i)))
   pub passes-of-draw : (κ : _) (a : _) (r : _) (x : _) (base : BaseVolume) → draw.Post κ a r x → r ≡ Drawn base
-      → PassesCounted (first a) (second a .now) × ((pass : ℕ) → PassRounded (first a) (second a .now) pass)
+      → PassesCounted (second a) (third a .now) × ((pass : ℕ) → PassRounded (second a) (third a .now) pass)
+  -- and every round trip of a bidirectional one, with an odd first pass
+  pub trips-of-draw : (κ : _) (a : _) (r : _) (x : _) (base : BaseVolume) → draw.Post κ a r x → r ≡ Drawn base → first a ≡ Bidirectional
+      → RoundTripsCounted (second a) (third a .now) × (base .first % 2 ≡ 1)
   pub base-of-draw : (κ : _) (a : _) (r : _) (x : _) (base : BaseVolume) → draw.Post κ a r x → r ≡ Drawn base
-      → (at : ℕ) × (base .first ≡ at + 1) × RoundedOnce (sumOf (listed (volumeAt (first a) (second a .now)) 3 at)) 3 (base .base) × RoundedTo 4 (base .base over 970200) (base .barrels)
+      → (at : ℕ) × (base .first ≡ firstPass (first a) (at + 1)) × RoundedOnce (sumOf (listed (volumeAt (first a) (second a) (third a .now)) 3 at)) 3 (base .base)
+      × RoundedTo 4 (base .base over 970200) (base .barrels)
   pub ticket-of-entry : (κ : _) (a : _) (r : _) (x : _) {v : Volumes} → ticket.Post κ a r x → toldTicket r ≡ done v → TicketRounded (first a) v

@@ -21,8 +21,9 @@ use Rattle.report.specs.Record.{bytesOfReport}
 use Rattle.report.specs.Judged.{reportOf, writeOf, readOf}
 use Rattle.proving.specs.Job.{fiveAt}
 use Rattle.draw.specs.Base.{barrelsOf}
-use Rattle.draw.specs.Passes.{volumesOf}
+use Rattle.draw.specs.Profile.{volumesOf}
 use Rattle.draw.specs.Answers.{fillOf, drawOf}
+use Rattle.draw.specs.declared.Profile.the-variants.{Unidirectional}
 use Rattle.ticket.specs.Answers.{ticketOf}
 use Rattle.ticket.specs.declared.Ticket.{Ticket}
 use Rattle.live.specs.Live.{temperatureOf, liveOf}
@@ -168,14 +169,14 @@ pub record Besides : Type 0 where
   pub number-next : writeOf 32 0 4 2 (fiveAt six 1) ≡ refused 22 0
   pub report-last : writeOf 32 7 6 3 (fiveAt six 1) ≡ refused 15 0
   -- the passes of a draw, the first three that qualify, and each way to break the pass rule
-  pub pass-volumes : volumesOf drawn (passes 2 50) ≡ 1155143 ∷ 2309633 ∷ 2309675 ∷ 2309786 ∷ []
-  pub from-second : drawOf drawn (passes 2 50) ≡ done (record { base = 2309698; barrels = 23806; first = 2 })
-  pub back : drawOf drawn (passes 1 50) ≡ refused 6 3
-  pub skipped : drawOf drawn (passes 4 50) ≡ refused 6 3
-  pub mixed : drawOf drawn (passes 2 51) ≡ refused 6 3
-  pub range-first : drawOf drawn (passes 4 1501) ≡ refused 5 3
-  pub two-fills : drawOf drawn (fill ++ fill) ≡ refused 1 0
-  pub one-pass : drawOf drawn (fill ++ fill ++ fill) ≡ refused 1 0
+  pub pass-volumes : volumesOf Unidirectional drawn (passes 2 50) ≡ 1155143 ∷ 2309633 ∷ 2309675 ∷ 2309786 ∷ []
+  pub from-second : drawOf Unidirectional drawn (passes 2 50) ≡ done (record { base = 2309698; barrels = 23806; first = 2 })
+  pub back : drawOf Unidirectional drawn (passes 1 50) ≡ refused 6 3
+  pub skipped : drawOf Unidirectional drawn (passes 4 50) ≡ refused 6 3
+  pub mixed : drawOf Unidirectional drawn (passes 2 51) ≡ refused 6 3
+  pub range-first : drawOf Unidirectional drawn (passes 4 1501) ≡ refused 5 3
+  pub two-fills : drawOf Unidirectional drawn (fill ++ fill) ≡ refused 1 0
+  pub one-pass : drawOf Unidirectional drawn (fill ++ fill ++ fill) ≡ refused 1 0
   -- equal readings are a ticket of nothing; a field out of range comes before closing below opening
   pub equal-readings : ticketOf (ticket 10000000 10000000 500) ≡ done (record { factor = 9913; gross = 0; net = 0 })
   pub closing-below : ticketOf (ticket 10050000 10000000 500) ≡ refused 11 0

@@ -7,7 +7,7 @@ use Rattle.exact.specs.declared.Quotient.{Quotient}
 use Rattle.factors.specs.Answers.{told as toldFactor}
 use Rattle.report.specs.Judged.{told as toldReport}
 use Rattle.run.specs.Answers.{told as toldRun}
-use Rattle.draw.specs.Answers.{toldFill, toldPasses, toldDraw}
+use Rattle.draw.specs.Answers.{toldFill, toldCount, toldDraw}
 use Rattle.draw.specs.declared.Counted.{Counted}
 use Rattle.ticket.specs.Answers.{told as toldTicket}
 use Rattle.live.specs.Live.{told as toldLive}
@@ -24,7 +24,7 @@ pub record Flattened : Type 0 where
   pub run-loses-nothing : LosesNothing flatRun toldRun
   pub fill-loses-nothing : LosesNothing flatFill toldFill
   -- the answer and the volumes
-  pub passes-lose-nothing : (a b : Counted) (v w : List ℕ) → flatPasses (toldPasses a) v ≡ flatPasses (toldPasses b) w → (a ≡ b) × (v ≡ w)
+  pub passes-lose-nothing : (a b : Counted) (v w : List ℕ) → flatPasses (toldCount a) v ≡ flatPasses (toldCount b) w → (a ≡ b) × (v ≡ w)
   pub draw-loses-nothing : LosesNothing flatDraw toldDraw
   pub ticket-loses-nothing : LosesNothing flatVolumes toldTicket
   pub live-loses-nothing : LosesNothing flatLive toldLive

@@ -3,7 +3,7 @@
 -- the rounded figures before it, and that it is that fraction rounded once.
 use mathlib.Core.Path.{_≡_}
 use mathlib.Core.List.{List, [], _∷_}
-use Prim.Native.Nat.{ℕ, _-_, _*_, _^_, _≤_, _<_}
+use Prim.Native.Nat.{ℕ, _+_, _-_, _*_, _%_, _^_, _≤_, _<_}
 use lib.IntN.{pos, _+ℤ_}
 use Rattle.exact.specs.Rounding.{Fraction, _over_}
 use Rattle.exact.specs.Words.{sumOf}
@@ -19,7 +19,9 @@ use Rattle.run.specs.declared.Run.{Run}
 use Rattle.run.specs.declared.Figures.{Figures}
 use Rattle.draw.specs.Fill.{fillAt}
 use Rattle.draw.specs.Passes.{passCount, passSum, passPressure, waterCompressibility, waterAt, passVolume}
+use Rattle.draw.specs.Profile.{outPass, backPass, volumeCount, volumeOf, volumesOf}
 use Rattle.draw.specs.declared.FillFigures.{FillFigures}
+use Rattle.draw.specs.declared.Profile.the-variants.{Bidirectional}
 use Rattle.draw.proofs.Sums.{drawnAt}
 use Rattle.ticket.specs.declared.Ticket.{Ticket}
 use Rattle.ticket.specs.declared.Volumes.{Volumes}
@@ -77,6 +79,15 @@ pub record PassesCounted (prover : Prover) (s : List ℕ) : Type 0 where
   pub passes-of-fills : (pass : ℕ) → 1 ≤ pass → pass ≤ passCount s → (i : ℕ) × (i < recordsIn 32 s) × (fillAt s i .pass ≡ pass)
   pub one-pressure : (i : ℕ) → i < recordsIn 32 s → fillAt s i .pressure ≡ passPressure s (fillAt s i .pass)
   pub fills-once : sumOf (listed (passSum (prover .metal) s) (passCount s) 1) ≡ sumOf (listed (drawnAt (prover .metal) s) (recordsIn 32 s) 0)
+
+-- 02: 'passes come in pairs, odd out and even back, and a round trip is the sum of the two corrected passes': each round trip has its own two passes
+-- of the draw, next to each other, and their rounded volumes added; no pass is left over, and none is of two round trips
+pub record RoundTripsCounted (prover : Prover) (s : List ℕ) : Type 0 where
+  pub odd-out : (trip : ℕ) → 1 ≤ trip → outPass trip % 2 ≡ 1
+  pub then-back : (trip : ℕ) → 1 ≤ trip → backPass trip ≡ outPass trip + 1
+  pub within-passes : (trip : ℕ) → trip ≤ volumeCount Bidirectional s → backPass trip ≤ passCount s
+  pub both-added : (trip : ℕ) → volumeOf Bidirectional prover s trip ≡ passVolume prover s (outPass trip) + passVolume prover s (backPass trip)
+  pub passes-once : sumOf (volumesOf Bidirectional prover s) ≡ sumOf (listed (passVolume prover s) (passCount s) 1)
 
 -- 01, 'Ticket': every figure is its formula on the rounded figures before it
 pub record TicketRounded (t : Ticket) (v : Volumes) : Type 0 where

@@ -12,6 +12,7 @@ pub mod RoundTrips
 pub mod Outcome
 pub mod OneOutcome
 pub mod Figures
+pub mod OutAndBack
 pub mod OneOutcomeC
 pub mod GrammarOutcome
 pub mod InPlace

@@ -25,7 +25,8 @@ recordNumbers = 1 ∷ 3 ∷ 4 ∷ 5 ∷ 2 ∷ 7 ∷ 8 ∷ []
 abbrev pub runNumbers : List ℕ
 runNumbers = 3 ∷ 4 ∷ 5 ∷ 7 ∷ 8 ∷ []
 
--- 'A water draw drops 14, 22, 4 ..; more or fewer passes than 3 to 20 is 1, found after the records'; its passes alone; one fill
+-- 'A water draw drops 14, 22, 4 ..; more or fewer passes than 3 to 20 is 1, found after the records', and so is
+-- 02's count of passes for round trips; its passes or round trips alone; one fill
 abbrev pub drawNumbers : List ℕ
 drawNumbers = 1 ∷ 3 ∷ 5 ∷ 2 ∷ 6 ∷ 9 ∷ []
 

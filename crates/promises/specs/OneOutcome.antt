@@ -21,6 +21,7 @@ use Rattle.ranges.proofs.is_k_factor.Reads as ranges-is-k-factor
 use Rattle.ranges.proofs.is_limit.Reads as ranges-is-limit
 use Rattle.ranges.proofs.are_runs.Reads as ranges-are-runs
 use Rattle.ranges.proofs.are_passes.Reads as ranges-are-passes
+use Rattle.ranges.proofs.are_paired_passes.Reads as ranges-are-paired-passes
 use Rattle.ranges.proofs.are_fills.Reads as ranges-are-fills
 use Rattle.ranges.proofs.is_certified.Reads as ranges-is-certified
 use Rattle.ranges.proofs.is_scale.Reads as ranges-is-scale
@@ -67,7 +68,7 @@ use Rattle.run.proofs.show.Reads as run-show
 use Rattle.proving.proofs.prove.Reads as proving-prove
 use Rattle.proving.proofs.accept.Reads as proving-accept
 use Rattle.draw.proofs.fill.Reads as draw-fill
-use Rattle.draw.proofs.passes.Reads as draw-passes
+use Rattle.draw.proofs.volumes.Reads as draw-volumes
 use Rattle.draw.proofs.draw.Reads as draw-draw
 use Rattle.ticket.proofs.work_out.Reads as ticket-work-out
 use Rattle.live.proofs.convert.Reads as live-convert
@@ -103,6 +104,7 @@ pub record OneOutcome : Type 0 where
   pub ranges-is-limit-one : OneAnswer ranges-is-limit.Pre ranges-is-limit.Post
   pub ranges-are-runs-one : OneAnswer ranges-are-runs.Pre ranges-are-runs.Post
   pub ranges-are-passes-one : OneAnswer ranges-are-passes.Pre ranges-are-passes.Post
+  pub ranges-are-paired-passes-one : OneAnswer ranges-are-paired-passes.Pre ranges-are-paired-passes.Post
   pub ranges-are-fills-one : OneAnswer ranges-are-fills.Pre ranges-are-fills.Post
   pub ranges-is-certified-one : OneAnswer ranges-is-certified.Pre ranges-is-certified.Post
   pub ranges-is-scale-one : OneAnswer ranges-is-scale.Pre ranges-is-scale.Post
@@ -156,7 +158,7 @@ pub record OneOutcome : Type 0 where
   -- the part handed back, by the bytes in it: of the place that holds them a contract over values can't speak
   pub proving-accept-one : OneRead proving-accept.Pre proving-accept.Post (λ κ r. r .now)
   pub draw-fill-one : OneAnswer draw-fill.Pre draw-fill.Post
-  pub draw-passes-one : OneAnswer draw-passes.Pre draw-passes.Post
+  pub draw-volumes-one : OneAnswer draw-volumes.Pre draw-volumes.Post
   pub draw-draw-one : OneAnswer draw-draw.Pre draw-draw.Post
   pub ticket-work-out-one : OneAnswer ticket-work-out.Pre ticket-work-out.Post
   pub live-convert-one : OneAnswer live-convert.Pre live-convert.Post

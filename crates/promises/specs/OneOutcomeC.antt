@@ -13,7 +13,9 @@ use Rattle.api.proofs.reports.endakuro_write.Reads as write
 use Rattle.api.proofs.reports.endakuro_read.Reads as read
 use Rattle.api.proofs.water.endakuro_fill.Reads as fill
 use Rattle.api.proofs.water.endakuro_passes.Reads as passes
+use Rattle.api.proofs.water.endakuro_trips.Reads as trips
 use Rattle.api.proofs.water.endakuro_draw.Reads as draw
+use Rattle.api.proofs.water.endakuro_bidirectional.Reads as bidirectional
 use Rattle.api.proofs.tickets.endakuro_ticket.Reads as ticket
 use Rattle.api.proofs.readings.endakuro_live.Reads as live
 use Rattle.api.proofs.panel.endakuro_panel_temperature.Reads as panel-temperature
@@ -41,7 +43,9 @@ pub record OneOutcomeC : Type 0 where
   pub read-one : OneAnswer read.Pre read.Post
   pub fill-one : OneAnswer fill.Pre fill.Post
   pub passes-one : OneAnswer passes.Pre passes.Post
+  pub trips-one : OneAnswer trips.Pre trips.Post
   pub draw-one : OneAnswer draw.Pre draw.Post
+  pub bidirectional-one : OneAnswer bidirectional.Pre bidirectional.Post
   pub ticket-one : OneAnswer ticket.Pre ticket.Post
   pub live-one : OneAnswer live.Pre live.Post
   pub panel-temperature-one : OneAnswer panel-temperature.Pre panel-temperature.Post

@@ -76,6 +76,10 @@ runsOk = within 5 20
 unfoldable pub passesOk : ℕ → Bool
 passesOk = within 3 20
 
+-- 02: passes in a draw of a bidirectional prover
+unfoldable pub pairedPassesOk : ℕ → Bool
+pairedPassesOk = within 6 20
+
 -- fills in a draw
 unfoldable pub fillsOk : ℕ → Bool
 fillsOk = within 3 60

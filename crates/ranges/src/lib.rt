@@ -2,7 +2,7 @@
 // table (specs/Table.antt): an end of a range stands in its function and nowhere else in the code.
 ghost use mathlib.Core.Path.{_≡_};
 ghost use Rattle.ranges.specs.Within.{within, withinSigned};
-ghost use Rattle.ranges.specs.Table.{temperatureOk, drawProverOk, drawMeasureOk, pressureOk, coefficientOk, modulusOk, diameterOk, wallOk, compressibilityOk, ctlOk, runFactorOk, ctdwOk, volumeOk, pulsesOk, kFactorOk, limitOk, runsOk, passesOk, fillsOk, certifiedOk, scaleOk, readingOk, meterFactorOk, sedimentOk};
+ghost use Rattle.ranges.specs.Table.{temperatureOk, drawProverOk, drawMeasureOk, pressureOk, coefficientOk, modulusOk, diameterOk, wallOk, compressibilityOk, ctlOk, runFactorOk, ctdwOk, volumeOk, pulsesOk, kFactorOk, limitOk, runsOk, passesOk, pairedPassesOk, fillsOk, certifiedOk, scaleOk, readingOk, meterFactorOk, sedimentOk};
 
 // x is lo to hi.
 fn is_within(x: u64, lo: u64, hi: u64) -> bool
@@ -142,6 +142,13 @@ pub fn are_passes(passes: u64) -> bool
     ensures { λ r. ⌜ r ≡ passesOk passes ⌝ }
 {
     is_within(passes, 3, 20)
+}
+
+// Passes in a draw of a bidirectional prover.
+pub fn are_paired_passes(passes: u64) -> bool
+    ensures { λ r. ⌜ r ≡ pairedPassesOk passes ⌝ }
+{
+    is_within(passes, 6, 20)
 }
 
 // Fills in a draw.

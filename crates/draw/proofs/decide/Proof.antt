@@ -12,25 +12,24 @@ use Rattle.group.proofs.Groups.{first-found, part-is-group}
 use Rattle.draw.specs.Base.{baseFrom, baseOf}
 use Rattle.draw.proofs.decide.Tie as tie
 
+abbrev start : tie.After-known-told → tie.Start
+start c = c .before .before .before .before .before
+
 abbrev volumes : tie.After-known-told → List ℕ
-volumes c =
-    let a = c .before .before .before .before .before .args in
-    a .volumes .now
+volumes c = start c .args .volumes .now
 
 place : (c : tie.After-known-told) → firstGroup 2 3 (volumes c) ≡ some (c .before .found .given .0 .0)
 place c = sym (c .before .before .before .first-group .ensures) ∙ ap placeOf (c .before .found .given .1)
 
 inside : (c : tie.After-known-told) → (c .before .found .given .0 .0 + 3 ≤ length (volumes c)) × (length (volumes c) ≤ 20)
-inside c =
-    let p = c .before .before .before .before .before in
-    (first-found 2 3 (volumes c) (place c) .within, p .pre)
+inside c = (first-found 2 3 (volumes c) (place c) .within, start c .pre)
 
 returns : tie.Need-returns
 unfolding baseOf
 returns c =
     let k = c .before .before in
     let at = k .before .found .given .0 .0 in
-    rw (place k) (ap done (c .base-from .ensures ∙ ap (λ (xs : List ℕ). baseFrom xs at) (part-is-group 3 (volumes k) at)))
+    rw (place k) (ap done (c .base-from .ensures ∙ ap (λ (xs : List ℕ). baseFrom (start k .args .profile) xs at) (part-is-group 3 (volumes k) at)))
 
 pub decide-spec : {M : Type 1} → Rattle.draw.proofs.decide.Statement.statement M
 unfolding baseOf

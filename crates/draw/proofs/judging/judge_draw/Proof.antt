@@ -1,52 +1,46 @@
--- `draw::judging::judge_draw` meets its contract: 1, 3, the records first to last, and 1 for the count of passes.
+-- `draw::judging::judge_draw` meets its contract: 1 for the count of passes, where the records are in order.
+use mathlib.Core.Bool.{Bool}
 use mathlib.Core.Path.{_≡_, sym, ap, _∙_}
-use mathlib.Core.Bool.{Bool, true, _&&_}
-use Prim.Native.Nat.{_%_}
 use native.Mathlib.Omega.{arith}
 use borrow.Author.Needs.{needs}
-use lib.Dec.{eqb}
-use lib.ListN.{length}
-use Rattle.refusals.specs.Told.{demand, orElse}
-use Rattle.refusals.proofs.Laws.{orElse-next, orElse-first, demand-holds, demand-fails}
-use Rattle.ranges.specs.Table.{fillsOk, passesOk}
-use Rattle.octets.specs.Records.{recordsIn, areRecords}
-use Rattle.draw.specs.Answers.{drawFault}
-use Rattle.draw.proofs.Sound.{count-within}
+use Rattle.refusals.specs.Told.{fine, demand}
+use Rattle.refusals.specs.Verdict.{faultOf}
+use Rattle.refusals.proofs.Laws.{orElse-next, orElse-first}
+use Rattle.draw.specs.Profile.{passesFit}
+use Rattle.draw.specs.Answers.{fillsFault, drawFault}
+use Rattle.draw.proofs.Sound.{sound}
 use Rattle.draw.proofs.judging.judge_draw.Tie as tie
 
--- what the code tests first
-tested : (c : tie.After-are-fills) → areRecords fillsOk 32 (length (c .before .before .args .s .now)) ≡ (eqb (length (c .before .before .args .s .now) % 32) 0 && c .are-fills .result)
-unfolding areRecords
-tested c = sym (ap (λ (b : Bool). eqb (length (c .before .before .args .s .now) % 32) 0 && b) (c .are-fills .ensures))
+abbrev start : tie.After-enum-told → tie.Start
+start c = c .before .before .before .before
 
-whole : (c : tie.Then1) → areRecords fillsOk 32 (length (c .before .before .before .args .s .now)) ≡ true
-whole c = tested (c .before) ∙ c .if1 .taken
-
-abbrev then : tie.After-demand → tie.Then1
-then c = c .before .before .before .before .before
+nothing : (c : tie.After-enum-told) → fillsFault (start c .args .prover) (start c .args .s .now) ≡ fine
+nothing c = sym (c .before .before .judge-records .ensures) ∙ ap faultOf (c .enum-told .given .1)
 
 count-passes-requires : tie.Need-count-passes-requires
 count-passes-requires c κs =
-    let w = c .before .before .before in
-    let count = count-within (w .before .before .before .args .s .now) (whole w) in
-    (omega (arith, count .0), count .1)
+    let a = start c .args in
+    let good = sound (a .prover) (a .s .now) (nothing c) in
+    (omega (arith, good .some-fills), good .few-fills)
 
 returns : tie.Need-returns
-unfolding recordsIn drawFault
+unfolding drawFault
 returns c =
-    let p = c .before .before .before in
-    let f = p .before in
-    let n = f .before .before in
-    let set = n .before in
-    let three = f .before .demand .ensures ∙ (λ i. demand (set .before .is-metal .ensures i && set .is-pipe .ensures i) 3) in
-    let one = c .before .before .demand2 .ensures ∙ ap (λ (b : Bool). demand b 1) (p .are-passes .ensures ∙ ap passesOk (n .count-passes .ensures)) in
-    let rest = c .before .or-else .ensures ∙ (λ i. orElse (f .judge-fills .ensures i) (one i)) in
-    c .or-else2 .ensures ∙ (λ i. orElse (three i) (rest i)) ∙ sym (orElse-next _ (demand-holds 1 (whole (then (f .before)))))
+    let f = c .before in
+    let n = f .before in
+    let e = n .before in
+    let fit = f .accepts .ensures ∙ ap (passesFit (start e .args .profile)) (n .count-passes .ensures) in
+    c .demand .ensures ∙ ap (λ (b : Bool). demand b 1) fit ∙ sym (orElse-next _ (nothing e))
+
+returns-2 : tie.Need-returns-2
+unfolding drawFault
+returns-2 c =
+    let v = c .before in
+    let j = v .before .before in
+    sym (orElse-first _ (sym (j .judge-records .ensures) ∙ ap faultOf (v .verdict .given .1)))
 
 pub judge-draw-spec : {M : Type 1} → Rattle.draw.proofs.judging.judge_draw.Statement.statement M
-unfolding recordsIn drawFault
 judge-draw-spec =
     tie.close
-    (tie.spec (search needs) (search needs) (search needs) count-passes-requires (search needs) (search needs)
-    (λ c κs. count-within (then c .before .before .before .args .s .now) (whole (then c)) .1) (search needs) (search needs) (search needs)
-    (search needs) returns (λ c. sym (orElse-first _ (demand-fails 1 (tested (c .before) ∙ c .if1 .left)))))
+    (tie.spec (search needs) (λ c. search needs) count-passes-requires (search needs) (search needs) (search needs) (search needs) returns
+    returns-2)

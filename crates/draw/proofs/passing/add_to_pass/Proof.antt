@@ -6,7 +6,7 @@ use Rattle.draw.specs.Fill.{fillOk}
 use Rattle.draw.specs.Drawn.{figuresOf}
 use Rattle.draw.specs.declared.FillFigures.{FillFigures}
 use Rattle.draw.proofs.Magnitudes.{drawn-most}
-use Rattle.draw.proofs.Volumes.{adds, adds-nothing}
+use Rattle.draw.proofs.Filling.{adds, adds-nothing}
 use Rattle.draw.proofs.passing.add_to_pass.Tie as tie
 
 returns : tie.Need-returns

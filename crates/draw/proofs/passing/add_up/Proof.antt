@@ -9,7 +9,7 @@ use Rattle.octets.specs.Records.{recordsIn}
 use Rattle.exact.specs.Words.{sumOf}
 use Rattle.group.specs.Listed.{listed}
 use Rattle.draw.specs.Passes.{passSum, drawnFor}
-use Rattle.draw.proofs.Volumes.{sum-next}
+use Rattle.draw.proofs.Filling.{sum-next}
 use Rattle.draw.proofs.passing.add_up.Tie as tie
 
 abbrev Inv-loop : tie.InvT-loop

@@ -6,7 +6,7 @@ use Rattle.factors.specs.Rounded.{cpsAt, cplAt}
 use Rattle.factors.specs.declared.Places.the-variants.{Six}
 use Rattle.factors.proofs.Values.{cps-value, cpl-value}
 use Rattle.draw.specs.Passes.{waterAt}
-use Rattle.draw.proofs.Magnitudes.{water-ok, product-fits, corrected-value}
+use Rattle.draw.proofs.Magnitudes.{water-ok, product-fits, corrected-most, corrected-value}
 use Rattle.draw.proofs.passing.correct.Tie as tie
 
 abbrev start : tie.After-value-or-zero2 → tie.Start
@@ -27,7 +27,9 @@ returns : tie.Need-returns
 returns c =
     let w = c .before in
     let s = start w in
-    c .round-or-zero .ensures ∙ corrected-value (s .args .pipe) (s .args .pressure) (s .pre .0) (s .pre .1) (s .args .sum) (s .pre .2) (cps-is (w .before .before)) (cpl-is w)
+    let a = s .args in
+    let is = c .round-or-zero .ensures ∙ corrected-value (a .pipe) (a .pressure) (s .pre .0) (s .pre .1) (a .sum) (s .pre .2) (cps-is (w .before .before)) (cpl-is w) in
+    (is, omega (arith, is, corrected-most (a .pipe) (a .pressure) (s .pre .0) (s .pre .1) (a .sum), s .pre .2))
 
 pub correct-spec : {M : Type 1} → Rattle.draw.proofs.passing.correct.Statement.statement M
 correct-spec =

@@ -12,7 +12,7 @@ use Rattle.octets.specs.Records.{recordsIn}
 use Rattle.draw.specs.Passes.{passPressure, pressureAt, isOf}
 use Rattle.draw.specs.declared.FillRecord.{FillRecord}
 use Rattle.draw.proofs.Fields.{fields}
-use Rattle.draw.proofs.Volumes.{of-pass, not-of-pass}
+use Rattle.draw.proofs.Filling.{of-pass, not-of-pass}
 use Rattle.draw.proofs.passing.find_pressure.Tie as tie
 
 abbrev Inv-loop : tie.InvT-loop

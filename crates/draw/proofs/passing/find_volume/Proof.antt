@@ -1,22 +1,25 @@
--- `draw::passing::find_volume` meets its contract.
-use mathlib.Core.Path.{_∙_}
-use Rattle.draw.specs.Passes.{correctedVolume, passVolume}
-use Rattle.draw.proofs.Sound.{Sound, sound}
+-- `draw::passing::find_volume` meets its contract: a pass, or a round trip.
+use mathlib.Core.Path.{sym, ap, _∙_}
+use borrow.Author.Needs.{needs}
+use Rattle.draw.specs.Profile.{volumeOf}
+use Rattle.draw.specs.declared.Profile.{Profile}
 use Rattle.draw.proofs.passing.find_volume.Tie as tie
 
-good : (c : tie.Start) → Sound (c .args .prover) (c .args .s .now)
-good c = sound (c .args .prover) (c .args .s .now) (c .pre)
-
 returns : tie.Need-returns
-unfolding passVolume
+unfolding volumeOf
 returns c =
-    let p = c .before .before in
-    let pipe = p .before .before .before .args .prover .pipe in
-    c .correct .ensures ∙ (λ i. correctedVolume pipe (p .find-pressure .ensures .0 i) (c .before .add-up .ensures .0 i))
+    let e = c .before in
+    let a = e .before .before .before .args in
+    c .find-pass .ensures .0 ∙ sym (ap (λ (p : Profile). volumeOf p (a .prover) (a .s .now) (a .number)) (e .enum-told .given .1))
+
+returns-2 : tie.Need-returns-2
+unfolding volumeOf
+returns-2 c =
+    let trip = c .before in
+    let a = trip .before .before .before .args in
+    c .find-trip .ensures ∙ sym (ap (λ (p : Profile). volumeOf p (a .prover) (a .s .now) (a .number)) (trip .enum-told2 .given .1))
 
 pub find-volume-spec : {M : Type 1} → Rattle.draw.proofs.passing.find_volume.Statement.statement M
 find-volume-spec =
     tie.close
-    (tie.spec (λ c κs. let w = good (c .before .before) in (w .few-fills, w .fill))
-    (λ c κs. let w = good (c .before .before .before) in (w .metal, w .few-fills, w .fill))
-    (λ c κs. (good (c .before .before .before .before) .pipe, c .before .find-pressure .ensures .1, c .add-up .ensures .1)) returns)
+    (tie.spec (search needs) (λ c κs. c .before .before .before .pre .0) (search needs) (λ c κs. c .before .before .before .pre) returns returns-2)

@@ -4,10 +4,10 @@ use borrow.Author.Needs.{needs}
 use Rattle.endakuro.proofs.entries.find_name.Tie as tie
 
 abbrev Inv-loop : tie.InvT-loop
-Inv-loop name names i₀ i = i ≤ 22
+Inv-loop name names i₀ i = i ≤ 24
 
 abbrev μ-loop : tie.MeasureT-loop
-μ-loop name names i₀ i = 22 - i
+μ-loop name names i₀ i = 24 - i
 
 pub find-name-spec : {M : Type 1} → Rattle.endakuro.proofs.entries.find_name.Statement.statement M
 find-name-spec =
