@@ -49,7 +49,7 @@ static void draw(const uint8_t *records, size_t passes) {
 
 int main(void) {
     // The ball was slow to leave on its first round trip.
-    static const int16_t scales[PASSES] = {-4800, -1100, -4100, -1100, -4050, -1150, -4120, -1080};
+    static const int16_t scales[PASSES] = {-4800, -1100, -4100, -1100, -4050, -1130, -4120, -1040};
     uint8_t records[PASSES * FILLS * RECORD];
     for (int pass = 0; pass < PASSES; pass++) {
         uint16_t pressure = pass % 2 == 0 ? 40 : 42; // out and back may differ in pressure

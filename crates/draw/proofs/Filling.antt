@@ -15,7 +15,6 @@ use Rattle.factors.specs.declared.Metal.{Metal}
 use Rattle.draw.specs.Fill.{fillAt}
 use Rattle.draw.specs.Drawn.{drawn}
 use Rattle.draw.specs.Passes.{isOf, drawnFor}
-use Rattle.draw.specs.declared.FillRecord.{FillRecord}
 
 -- ---- the sum
 
@@ -26,21 +25,21 @@ sum-next f n i sum h is at =
     let more : n - i ≡ suc (n - (i + 1)) = omega arith in
     omega (arith, at, ap (λ (m : ℕ). sumOf (listed f m i)) more)
 
--- whether a decoded fill is one of the pass, and what it adds to it
-module _ (s : List ℕ) (i : ℕ) {fill : FillRecord} (is : fill ≡ fillAt s i) where
-  pub of-pass : {pass : ℕ} → fill .pass ≡ pass → isOf s pass i ≡ true
+-- whether a fill, by its pass, is one of the pass asked for, and what it adds to it
+module _ (s : List ℕ) (i : ℕ) {own : ℕ} (is : own ≡ fillAt s i .pass) where
+  pub of-pass : {pass : ℕ} → own ≡ pass → isOf s pass i ≡ true
   unfolding isOf
-  of-pass {pass} same = rw (← is) (eq-eqb (fill .pass) pass same)
+  of-pass {pass} same = rw (← is) (eq-eqb own pass same)
 
-  pub not-of-pass : (pass : ℕ) → (fill .pass ≡ pass → ⊥) → isOf s pass i ≡ false
+  pub not-of-pass : (pass : ℕ) → (own ≡ pass → ⊥) → isOf s pass i ≡ false
   unfolding isOf
-  not-of-pass pass other = rw (← is) (ne-eqb (fill .pass) pass other)
+  not-of-pass pass other = rw (← is) (ne-eqb own pass other)
 
-  pub adds : (metal : Metal) {pass x : ℕ} → fill .pass ≡ pass → x ≡ drawn metal fill → x ≡ drawnFor metal s pass i
+  pub adds : (metal : Metal) {pass x : ℕ} → own ≡ pass → x ≡ drawn metal (fillAt s i) → x ≡ drawnFor metal s pass i
   unfolding drawnFor
-  adds metal same drew = rw (of-pass same, ← is) drew
+  adds metal same drew = rw (of-pass same) drew
 
-  pub adds-nothing : (metal : Metal) (pass : ℕ) → (fill .pass ≡ pass → ⊥) → 0 ≡ drawnFor metal s pass i
+  pub adds-nothing : (metal : Metal) (pass : ℕ) → (own ≡ pass → ⊥) → 0 ≡ drawnFor metal s pass i
   unfolding drawnFor
   adds-nothing metal pass other = rw (not-of-pass pass other)
 

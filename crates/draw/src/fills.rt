@@ -28,6 +28,22 @@ pub(crate) fn decode(s: &[u8], i: usize) -> FillRecord
     }
 }
 
+// The pass of such a record: to tell whose fill it is, the rest of it is not read.
+pub(crate) fn pass_at(s: &[u8], i: usize) -> u8
+    requires { ⌜ i < 60 ⌝ }
+    ensures { λ r. ⌜ r ≡ fillAt (now (s .entry)) i .pass ⌝ }
+{
+    octets::byte_at(s, 32 * i + 16)
+}
+
+// And its pressure.
+pub(crate) fn pressure_at(s: &[u8], i: usize) -> u16
+    requires { ⌜ i < 60 ⌝ }
+    ensures { λ r. ⌜ r ≡ fillAt (now (s .entry)) i .pressure ⌝ }
+{
+    octets::word_at(s, 32 * i + 18)
+}
+
 // Every field of the record is in its range; the pass byte has none.
 pub(crate) fn is_fill(fill: FillRecord) -> bool
     ensures { λ r. ⌜ r ≡ fillOk fill ⌝ }

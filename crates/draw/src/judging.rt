@@ -59,7 +59,7 @@ pub(crate) fn count_passes(s: &[u8]) -> u8
     requires { ⌜ (1 ≤ recordsIn 32 (now s)) × (recordsIn 32 (now s) ≤ 60) ⌝ }
     ensures { λ r. ⌜ r ≡ passCount (now (s .entry)) ⌝ }
 {
-    fills::decode(s, s.len() / 32 - 1).pass
+    fills::pass_at(s, s.len() / 32 - 1)
 }
 
 // 1, 3 and the records.

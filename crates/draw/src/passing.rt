@@ -26,9 +26,8 @@ fn add_to_pass(metal: Metal, s: &[u8], pass: u8, i: usize) -> u64
     requires { ⌜ (i < 60) × (metalOk metal ≡ true) × (fillOk (fillAt (now s) i) ≡ true) ⌝ }
     ensures { λ r. ⌜ (r ≡ drawnFor metal (now (s .entry)) pass i) × (r ≤ 500000000) ⌝ }
 {
-    let fill = fills::decode(s, i);
-    if fill.pass == pass {
-        return fills::work_out(metal, fill).drawn;
+    if fills::pass_at(s, i) == pass {
+        return fills::work_out(metal, fills::decode(s, i)).drawn;
     }
     0
 }
@@ -56,9 +55,8 @@ fn find_pressure(s: &[u8], pass: u8) -> u16
     let fills = s.len() / 32;
     let mut i = 0;
     while i < fills {
-        let fill = fills::decode(s, i);
-        if fill.pass == pass {
-            return fill.pressure;
+        if fills::pass_at(s, i) == pass {
+            return fills::pressure_at(s, i);
         }
         i += 1;
     }

@@ -10,7 +10,6 @@ use Rattle.octets.proofs.FirstToLast.{places, start, done, place-hit, place-nex
 use Rattle.draw.specs.Fill.{fillAt}
 use Rattle.octets.specs.Records.{recordsIn}
 use Rattle.draw.specs.Passes.{passPressure, pressureAt, isOf}
-use Rattle.draw.specs.declared.FillRecord.{FillRecord}
 use Rattle.draw.proofs.Fields.{fields}
 use Rattle.draw.proofs.Filling.{of-pass, not-of-pass}
 use Rattle.draw.proofs.passing.find_pressure.Tie as tie
@@ -30,15 +29,15 @@ returns c =
     let a = s .args in
     let records = a .s .now in
     let h : l .loop .i < length records / 32 = omega arith in
-    let place = place-hit (isOf records (a .pass)) (length records / 32) (l .loop .i) h (of-pass records (l .loop .i) (d .decode .ensures) (c .if1 .taken)) (l .loop .inv) in
-    (rw place (ap (λ (f : FillRecord). f .pressure) (d .decode .ensures)), rw (d .decode .ensures) (fields (fillAt records (l .loop .i)) (s .pre .1 (l .loop .i) h) .pressure))
+    let place = place-hit (isOf records (a .pass)) (length records / 32) (l .loop .i) h (of-pass records (l .loop .i) (d .pass-at .ensures) (c .before .if1 .taken)) (l .loop .inv) in
+    (rw place (c .pressure-at .ensures), rw (c .pressure-at .ensures) (fields (fillAt records (l .loop .i)) (s .pre .1 (l .loop .i) h) .pressure))
 
 loop-again : tie.Need-loop-again Inv-loop μ-loop
 loop-again c =
-    let d = c .before .before in
+    let d = c .before in
     let l = d .before .before in
     let a = l .before .before .args in
-    place-next (isOf (a .s .now) (a .pass)) (length (a .s .now) / 32) (l .loop .i) (omega arith) (not-of-pass (a .s .now) (l .loop .i) (d .decode .ensures) (a .pass) (c .if1 .left)) (l .loop .inv)
+    place-next (isOf (a .s .now) (a .pass)) (length (a .s .now) / 32) (l .loop .i) (omega arith) (not-of-pass (a .s .now) (l .loop .i) (d .pass-at .ensures) (a .pass) (c .if1 .left)) (l .loop .inv)
 
 returns-2 : tie.Need-returns-2 Inv-loop μ-loop
 unfolding passPressure recordsIn pressureOk
@@ -53,4 +52,5 @@ find-pressure-spec =
     tie.close
     (tie.spec Inv-loop μ-loop
     (λ c. start places (placeIf (isOf (c .before .args .s .now) (c .before .args .pass))) (length (c .before .args .s .now) / 32))
-    (λ c κs. let s = c .before .before .before in omega (arith, s .pre .0)) returns (search needs) (λ c. omega arith) loop-again returns-2)
+    (λ c κs. let s = c .before .before .before in omega (arith, s .pre .0))
+    (λ c κs. let l = c .before .before in let s = l .before .before .before in omega (arith, s .pre .0)) returns (search needs) (λ c. omega arith) loop-again returns-2)
