@@ -1,4 +1,4 @@
-"""The water draw (01), unidirectional."""
+"""The water draw: unidirectional (01) and bidirectional (02)."""
 
 import struct
 from collections import namedtuple
@@ -22,7 +22,9 @@ from settings import coefficient_of, judge_settings
 PLACES = 6
 VOLUME_PLACES = 2  # 0.01 cubic inch
 GROUP = 3
-LIMIT = 2  # "Three consecutive passes qualify by the same test with limit 2"
+# 01: "Three consecutive passes qualify by the same test with limit 2"; 02, Bidirectional provers:
+# "Three consecutive round trips must meet the water draw test"
+LIMIT = 2
 CUBIC_INCHES_PER_BARREL = 9702
 BARREL_PLACES = 4
 
@@ -103,9 +105,9 @@ def one_fill(metal, certificate, lent):
     return figures(coefficient, judged_fill(record, 1))
 
 
-def passes(settings, lent):
-    """Each pass's volume: refused 1, 3; "then records first to last, each with 5, 2, 6"; "more or
-    fewer passes than 3 to 20 is 1, found after the records"."""
+def corrected_passes(settings, lent, counts):
+    """Each pass's volume: refused 1, 3; "then records first to last, each with 5, 2, 6"; then 1
+    where the count of passes is not one of those that the prover's type takes."""
     records = whole_records(lent, ranges.FILLS)
     judge_settings(settings)
     coefficient = coefficient_of(settings.metal, settings.certificate)
@@ -118,7 +120,7 @@ def passes(settings, lent):
             by_pass.append([])
         by_pass[-1].append(fill)
         before = fill
-    if len(by_pass) not in ranges.PASSES:
+    if len(by_pass) not in counts:
         raise Refused(RECORDS_NOT_WHOLE)
     volumes = []
     for fills in by_pass:
@@ -127,13 +129,40 @@ def passes(settings, lent):
     return volumes
 
 
-def draw(settings, lent):
-    """01: "The answer is that [the base volume], the same in barrels (÷ 9702, 4 places) and the
-    first pass used"; 9 comes last."""
-    volumes = passes(settings, lent)
+def passes(settings, lent):
+    """01: "more or fewer passes than 3 to 20 is 1, found after the records"."""
+    return corrected_passes(settings, lent, ranges.PASSES)
+
+
+def trips(settings, lent):
+    """02, Bidirectional provers: "an odd count of passes, or a count outside 6 to 20, is 1, found
+    after the records"; "passes come in pairs, odd out and even back, and a round trip is the sum of
+    the two corrected passes". Each of them is rounded already, and was worked at its own pressure:
+    "The pair of a round trip may differ in pressure"."""
+    volumes = corrected_passes(settings, lent, ranges.PAIRED_PASSES)
+    return [out + back for out, back in zip(volumes[0::2], volumes[1::2], strict=True)]
+
+
+def base_volume(volumes):
+    """01: "The first three decide; the base volume is their mean, rounded. The answer is that, the
+    same in barrels (÷ 9702, 4 places)", and where the three begin, from 0; 9 comes last. 02 has the
+    same of round trips."""
     first = group.first_group(volumes, GROUP, LIMIT)
     if first is None:
         raise Refused(NO_GROUP)
     base = group.mean(volumes[first : first + GROUP])
     cubic_inches = Fraction(base, 10**VOLUME_PLACES)
-    return base, rounded(cubic_inches / CUBIC_INCHES_PER_BARREL, BARREL_PLACES), first + 1
+    return base, rounded(cubic_inches / CUBIC_INCHES_PER_BARREL, BARREL_PLACES), first
+
+
+def draw(settings, lent):
+    """01: "The answer is that [the base], the same in barrels .. and the first pass used"."""
+    base, barrels, first = base_volume(passes(settings, lent))
+    return base, barrels, first + 1
+
+
+def bidirectional(settings, lent):
+    """02: "the base volume is the rounded mean of the first three [round trips] that do, and the
+    first pass used is the out pass of the first of them"."""
+    base, barrels, first = base_volume(trips(settings, lent))
+    return base, barrels, 2 * first + 1

@@ -72,6 +72,7 @@ def single_octets(bits):
 
 
 SETTINGS = (u8, u16, u32, u32, u32, u32)
+WATER_DRAW = (*SETTINGS, octets)
 
 
 class List:
@@ -147,18 +148,18 @@ def answer_run(*operands):
     return ok(*proving.one_run(settings.Settings(*prover), k_factor, record))
 
 
-def answer_draw(*operands):
+def answer_draw(rule, *operands):
     *prover, records = operands
-    return ok(*draw.draw(settings.Settings(*prover), records))
+    return ok(*rule(settings.Settings(*prover), records))
 
 
 def answer_fill(metal, certificate, record):
     return ok(*draw.one_fill(metal, certificate, record))
 
 
-def answer_passes(*operands):
+def answer_volumes(rule, *operands):
     *prover, records = operands
-    volumes = draw.passes(settings.Settings(*prover), records)
+    volumes = rule(settings.Settings(*prover), records)
     return ok(len(volumes), *volumes)
 
 
@@ -240,9 +241,11 @@ ENTRIES = {
     b"prove": ((u32, *SETTINGS, u32, u16, octets, octets), answer_prove),
     b"runs": ((*SETTINGS, u32, u16, octets), answer_runs),
     b"run": ((*SETTINGS, u32, octets), answer_run),
-    b"draw": ((*SETTINGS, octets), answer_draw),
+    b"draw": (WATER_DRAW, partial(answer_draw, draw.draw)),
     b"fill": ((u8, u16, octets), answer_fill),
-    b"passes": ((*SETTINGS, octets), answer_passes),
+    b"passes": (WATER_DRAW, partial(answer_volumes, draw.passes)),
+    b"bidirectional": (WATER_DRAW, partial(answer_draw, draw.bidirectional)),
+    b"trips": (WATER_DRAW, partial(answer_volumes, draw.trips)),
     b"ticket": ((u32, u32, *(u16,) * 5, u32), answer_ticket),
     b"live": ((single, single), answer_live),
     b"panel_temperature": ((i16,), answer_panel_temperature),

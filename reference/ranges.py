@@ -1,5 +1,5 @@
-"""Units and ranges (01, Units and ranges; Ticket; Records), both ends inside; and what a liquid's
-pressure may be (02, Liquids that boil)."""
+"""Units and ranges (01, Units and ranges; Ticket; Records), both ends inside; what a liquid's
+pressure may be (02, Liquids that boil), and how many passes (02, Bidirectional provers)."""
 
 
 def span(first, last):
@@ -24,6 +24,7 @@ K_FACTOR = span(1, 1_000_000_000)  # 0.001 pulse per barrel
 LIMIT = span(1, 100)  # 1 in 10,000
 RUNS = span(5, 20)
 PASSES = span(3, 20)
+PAIRED_PASSES = span(6, 20)[::2]  # out and back: 6, 8, .. 20
 FILLS = span(3, 60)
 CERTIFIED_VOLUME = span(20_000, 100_000_000)  # 0.01 cubic inch
 SCALE_READING = span(-10000, 10000)  # 0.01 cubic inch
