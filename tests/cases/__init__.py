@@ -3,9 +3,34 @@
 import random
 from itertools import chain, islice
 
-from . import books, draws, factors, grammar, panels, provings, reports, singles, spreads, tickets
+from . import (
+    books,
+    draws,
+    factors,
+    grammar,
+    panels,
+    provings,
+    reports,
+    singles,
+    spreads,
+    tickets,
+    trips,
+)
 
-AIMED = (factors, tickets, singles, panels, reports, provings, draws, spreads, books, grammar)
+# The latest last, so that the lines before them stay as they were.
+AIMED = (
+    factors,
+    tickets,
+    singles,
+    panels,
+    reports,
+    provings,
+    draws,
+    spreads,
+    books,
+    grammar,
+    trips,
+)
 
 
 def aimed(rng):
@@ -18,6 +43,7 @@ def by_chance(rng):
         (10, factors),
         (34, provings),
         (20, draws),
+        (14, trips),
         (10, tickets),
         (8, singles),
         (2, panels),

@@ -3,7 +3,7 @@
 from dataclasses import replace
 
 from . import ends
-from .arithmetic import cps, half_up, water_cpl
+from .arithmetic import half_up
 from .proving_days import valid_prover, within
 from .shapes import Draw, Fill
 
@@ -23,10 +23,8 @@ def valid_fill(rng):
 
 
 def volume_of(fills, prover):
-    pressure = fills[0].pressure
-    prover_cps = cps(pressure, prover.inside, prover.wall, prover.modulus, 6)
     drawn = sum(fill.drawn(prover) for fill in fills)
-    return half_up(drawn * 10**12, prover_cps * water_cpl(pressure))
+    return half_up(drawn * 10**12, prover.pass_divisor(fills[0].pressure))
 
 
 def steered(fills, wanted, prover):
@@ -40,36 +38,57 @@ def steered(fills, wanted, prover):
     return fills
 
 
+def drawn_again(measures, number, pressure, rng):
+    """The fills of a pass by the same measures."""
+    return [
+        replace(
+            fill,
+            pass_number=number,
+            pressure=pressure,
+            ctdw=fill.ctdw + rng.randint(-3, 3),
+            prover_temperature=within(fill.prover_temperature + rng.randint(-3, 3), (350, 1050)),
+        )
+        for fill in measures
+    ]
+
+
+def valid_measures(count, rng):
+    return [replace(valid_fill(rng), scale=rng.randint(-2000, 2000)) for _ in range(count)]
+
+
+def near(pressure, rng):
+    return within(pressure + rng.choice((0, 0, rng.randint(-3, 3))), ends.PRESSURE)
+
+
+class Aim:
+    """The volumes wanted of passes or round trips, from the first of them on: most agree with it or
+    nearly so."""
+
+    def __init__(self, first, rng):
+        self.first = first
+        self.allowed = LIMIT * first // 10_000
+        self.spread = rng.choice((self.allowed // 2, self.allowed, self.allowed, self.allowed + 1))
+
+    def next(self, rng):
+        wanted = self.first + rng.choice((0, self.spread, rng.randint(0, self.spread)))
+        if rng.random() < 0.1:
+            wanted += rng.choice((-1, 1)) * rng.randint(1, 3 * self.allowed + 1)
+        return wanted
+
+
 def valid_draw(rng):
     prover = valid_prover(rng)
     count = rng.choice((3, 3, 3, 4, 5, rng.randint(3, 20)))
-    each = rng.randint(1, min(4, 60 // count))
-    measures = [replace(valid_fill(rng), scale=rng.randint(-2000, 2000)) for _ in range(each)]
+    measures = valid_measures(rng.randint(1, min(4, 60 // count)), rng)
     pressure = rng.randint(0, 200)
-    smallest = None
+    aim = None
     fills = []
     for number in range(1, count + 1):
-        pressure = within(pressure + rng.choice((0, 0, rng.randint(-3, 3))), ends.PRESSURE)
-        own = [
-            replace(
-                fill,
-                pass_number=number,
-                pressure=pressure,
-                ctdw=fill.ctdw + rng.randint(-3, 3),
-                prover_temperature=within(
-                    fill.prover_temperature + rng.randint(-3, 3), (350, 1050)
-                ),
-            )
-            for fill in measures
-        ]
-        if smallest is None:
-            smallest = volume_of(own, prover)
-            allowed = LIMIT * smallest // 10_000
-            spread = rng.choice((allowed // 2, allowed, allowed, allowed + 1))
-            fills += own
-            continue
-        wanted = smallest + rng.choice((0, spread, rng.randint(0, spread)))
-        if rng.random() < 0.1:
-            wanted += rng.choice((-1, 1)) * rng.randint(1, 3 * allowed + 1)
-        fills += steered(own, wanted, prover)
+        pressure = near(pressure, rng)
+        own = drawn_again(measures, number, pressure, rng)
+        if aim is None:
+            aim = Aim(volume_of(own, prover), rng)
+        else:
+            own = steered(own, aim.next(rng), prover)
+        fills += own
     return Draw(tuple(fills), prover)

@@ -43,7 +43,8 @@ def pass_back(draw, at, rng):
 
 def pass_pressure(draw, at, rng):
     # the second of a pass's two fills
-    return draw.with_fill(at | 1, pressure=draw.fills[at | 1].pressure + 1)
+    own = draw.fills[at | 1].pressure
+    return draw.with_fill(at | 1, pressure=own - 1 if own else 1)
 
 
 def two_passes(draw, at, rng):

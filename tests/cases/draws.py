@@ -2,9 +2,9 @@
 
 from dataclasses import replace
 
-from . import draw_faults, draw_halves, ends
+from . import draw_ends, draw_faults, draw_halves
 from .draw_days import LIMIT, valid_draw
-from .plain import everywhere, plain_draw
+from .plain import LARGEST, fills_alike, plain_draw
 from .shapes import Draw, Fill, Prover
 
 
@@ -21,17 +21,11 @@ def aimed(rng):
 
 
 def record_ends(rng):
-    for name, of in ends.FILL.items():
-        for value in ends.around(of):
-            draw = plain_draw([1_155_000] * 4)
-            at = rng.randrange(4)
-            bad = draw.with_fill(at, **{name: value})
-            yield bad.draw
-            yield bad.passes
-            yield bad.fill(at)
-            all_so = everywhere(draw, **{name: value})
-            yield all_so.draw
-            yield all_so.passes
+    for draw, at in draw_ends.fields(4, rng):
+        yield draw.draw
+        yield draw.passes
+        if at is not None:
+            yield draw.fill(at)
     for prover_temperature in (350, 1050):
         for measure_temperature in (321, 1050):
             for coefficient in (100, 400):
@@ -43,31 +37,20 @@ def record_ends(rng):
 
 
 def unnamed_bytes(rng):
-    """Each of bytes 20 to 31 alone: a fill has no equilibrium pressure there."""
-    for byte in range(12):
-        unnamed = bytearray(12)
-        unnamed[byte] = rng.randint(1, 255)
-        at = rng.randrange(4)
-        bad = plain_draw([1_155_000] * 4).with_fill(at, unnamed=bytes(unnamed))
-        yield bad.draw
-        yield bad.passes
-        yield bad.fill(at)
+    for draw, at in draw_ends.unnamed_bytes(4, rng):
+        yield draw.draw
+        yield draw.passes
+        yield draw.fill(at)
 
 
 def setting_ends():
-    for name, of in ends.PROVER.items():
-        for value in ends.around(of):
-            draw = plain_draw([1_155_000] * 3, prover=Prover(**{name: value}))
-            draw = everywhere(draw, pressure=700)
-            yield draw.draw
-            yield draw.passes
-            yield draw.fill()
-    for metal in (0, 1, 2, 3, 4, 5, 255):
-        for certificate in (0, 1, 99, 100, 400, 401):
-            draw = plain_draw([1_155_000] * 3, prover=Prover(metal, certificate))
-            draw = everywhere(draw, measure_temperature=700, prover_temperature=800)
-            yield draw.draw
-            yield draw.fill()
+    for draw in draw_ends.settings(3):
+        yield draw.draw
+        yield draw.passes
+        yield draw.fill()
+    for draw in draw_ends.metals(3):
+        yield draw.draw
+        yield draw.fill()
 
 
 def count_ends(rng):
@@ -114,19 +97,13 @@ def group_places():
 def largest():
     """The largest products, and passes past 32 bits."""
     prover = Prover(4, 400)
-    fill = Fill(100_000_000, 10000, 350, 1050, 400, 1_020_000)
     for shape in ((20, 20, 20), (58, 1, 1), (1, 58, 1), (1, 1, 58), (30, 15, 15)):
         for pressure in (0, 1, 1500):
-            fills = [
-                replace(fill, pass_number=number, pressure=pressure)
-                for number, count in enumerate(shape, 1)
-                for _ in range(count)
-            ]
-            draw = Draw(tuple(fills), prover)
+            draw = Draw(fills_alike(replace(LARGEST, pressure=pressure), shape), prover)
             yield draw.draw
             yield draw.passes
     yield Draw(
-        tuple(replace(fill, pass_number=number, pressure=1500) for number in (1, 2, 3)),
+        fills_alike(replace(LARGEST, pressure=1500), (1, 1, 1)),
         Prover(4, 100, 60000, 100, 10_000_000),
     ).draw
 

@@ -1,14 +1,15 @@
 """Cases of the grammar: operands at the ends of their types, malformed, missing and left over;
 damaged lines, wild bytes and long lines."""
 
-from . import books, draws, factors, panels, provings, reports, singles, spreads, tickets
+from . import books, draws, factors, panels, provings, reports, singles, spreads, tickets, trips
+from .plain import plain_trips
 from .shapes import Draw, Fill, Job, Prover, Report, Run, Ticket, line
 
 LONGEST = 524_288
 
 NAMES = (
-    "cts cps cpl prove runs run draw fill passes ticket live panel_temperature panel_pressure"
-    " spread write read request withdraw take book load empty"
+    "cts cps cpl prove runs run draw fill passes bidirectional trips ticket live"
+    " panel_temperature panel_pressure spread write read request withdraw take book load empty"
 ).split()
 
 
@@ -16,6 +17,7 @@ def examples():
     """One good line of every entry."""
     job = Job((Run(),) * 5)
     draw = Draw(tuple(Fill(pass_number=number) for number in (1, 2, 3)))
+    out_and_back = plain_trips([(1_155_000, 1_158_000)] * 3)
     report = Report()
     return [
         line("cts", 700, 4, 250, 4),
@@ -28,6 +30,8 @@ def examples():
         draw.draw,
         draw.fill(),
         draw.passes,
+        out_and_back.bidirectional,
+        out_and_back.trips,
         Ticket().line,
         line("live", "42928000", "42200000"),
         line("panel_temperature", 733),
@@ -187,7 +191,8 @@ def long_lines(rng):
     yield filled(b"runs " + prover + job, run, LONGEST)
     yield filled(b"prove 7 " + prover + job + b"00" * 32 + b" ", run, LONGEST)
     yield b"prove 7 " + prover + job + b"5a" * 200_000 + b" -"
-    yield filled(b"passes " + prover + b" ", Fill().packed.hex().encode(), LONGEST)
+    for name in (b"passes ", b"bidirectional "):
+        yield filled(name + prover + b" ", Fill().packed.hex().encode(), LONGEST)
     yield b"write 7 6 2 8000 8000 8000 8000 8000 " + rng.randbytes(250_000).hex().encode()
 
 
@@ -204,6 +209,7 @@ def good_line(rng):
             factors.by_chance,
             provings.by_chance,
             draws.by_chance,
+            trips.by_chance,
             tickets.by_chance,
             singles.by_chance,
             panels.by_chance,
@@ -237,7 +243,8 @@ def damaged(rng):
 
 def marred_record(rng):
     """A good line of records with one hex digit changed, so that the grammar still stands."""
-    octets = bytearray(rng.choice((provings.by_chance, draws.by_chance, reports.by_chance))(rng))
+    parts = (provings, draws, trips, reports)
+    octets = bytearray(rng.choice(parts).by_chance(rng))
     start = octets.rindex(b" ") + 1
     octets[rng.randrange(start, len(octets))] = rng.choice(b"0123456789abcdef")
     return bytes(octets)

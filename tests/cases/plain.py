@@ -6,6 +6,8 @@ from .arithmetic import half_up
 from .shapes import Draw, Fill, Job, Prover, Run
 
 STEADY_BASE = 20_000_000
+# The fill that draws the most, by a prover whose coefficient is 400.
+LARGEST = Fill(100_000_000, 10000, 350, 1050, 400, 1_020_000)
 
 
 def plain_job(factors, **others):
@@ -37,3 +39,23 @@ def plain_draw(volumes, fills_each=1, **others):
 
 def everywhere(draw, **fields):
     return replace(draw, fills=tuple(replace(fill, **fields) for fill in draw.fills))
+
+
+def plain_trips(pairs, fills_each=1, **others):
+    """A draw whose passes, out and back, have these volumes."""
+    return plain_draw([volume for pair in pairs for volume in pair], fills_each, **others)
+
+
+def at_pressures(draw, pressures):
+    """The same fills, each pass at a pressure of its own."""
+    fills = (replace(fill, pressure=pressures[fill.pass_number - 1]) for fill in draw.fills)
+    return replace(draw, fills=tuple(fills))
+
+
+def fills_alike(fill, shape):
+    """The fill again and again, so many times in each pass."""
+    return tuple(
+        replace(fill, pass_number=number)
+        for number, count in enumerate(shape, 1)
+        for _ in range(count)
+    )

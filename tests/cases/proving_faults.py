@@ -28,7 +28,10 @@ def too_many(job, at, rng):
 
 
 def setting(job, at, rng):
-    name = rng.choice(list(ends.PROVER))
+    return with_setting(job, rng.choice(list(ends.PROVER)), rng)
+
+
+def with_setting(job, name, rng):
     value = ends.outside(ends.PROVER[name], rng)
     if name == "certificate":
         value = value or 99

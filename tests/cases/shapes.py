@@ -3,10 +3,12 @@
 import struct
 from dataclasses import dataclass, field, replace
 
-from .arithmetic import cpl, cps, cts, half_up
+from .arithmetic import cpl, cps, cts, half_up, water_cpl
 
 NAMED = (186, 288, 265, 180)
 NO_BUFFER_YET = bytes(32)
+RECORD_LENGTH = 32
+FILL = struct.Struct("<IhhhHIBBH12s")
 
 
 def line(*words):
@@ -29,6 +31,10 @@ class Prover:
     @property
     def coefficient(self):
         return self.certificate or NAMED[self.metal]
+
+    def pass_divisor(self, pressure):
+        """CPS × CPL, by which a pass at this pressure is divided, in 10^-12."""
+        return cps(pressure, self.inside, self.wall, self.modulus, 6) * water_cpl(pressure)
 
     @property
     def words(self):
@@ -161,8 +167,7 @@ class Fill:
 
     @property
     def packed(self):
-        return struct.pack(
-            "<IhhhHIBBH12s",
+        return FILL.pack(
             self.certified,
             self.scale,
             self.prover_temperature,
@@ -174,6 +179,11 @@ class Fill:
             self.pressure,
             self.unnamed,
         )
+
+    @classmethod
+    def unpacked(cls, record):
+        *fields, byte_17, pressure, unnamed = FILL.unpack(record)
+        return cls(*fields, pressure, byte_17, unnamed)
 
     def drawn(self, prover):
         measure = cts(self.measure_temperature, self.coefficient, 6)
@@ -191,13 +201,34 @@ class Draw:
     def records(self):
         return b"".join(fill.packed for fill in self.fills) + self.tail
 
+    def asked(self, entry):
+        return line(entry, *self.prover.words, hexed(self.records))
+
     @property
     def draw(self):
-        return line("draw", *self.prover.words, hexed(self.records))
+        return self.asked("draw")
 
     @property
     def passes(self):
-        return line("passes", *self.prover.words, hexed(self.records))
+        return self.asked("passes")
+
+    @property
+    def bidirectional(self):
+        return self.asked("bidirectional")
+
+    @property
+    def trips(self):
+        return self.asked("trips")
+
+    @classmethod
+    def read(cls, text):
+        """The draw that a line asks for."""
+        _, *settings, records = text.decode("ascii").split(" ")
+        lent = bytes.fromhex(records.removeprefix("-"))
+        whole = len(lent) // RECORD_LENGTH * RECORD_LENGTH
+        starts = range(0, whole, RECORD_LENGTH)
+        fills = tuple(Fill.unpacked(lent[at : at + RECORD_LENGTH]) for at in starts)
+        return cls(fills, Prover(*map(int, settings)), lent[whole:])
 
     def fill(self, at=0):
         record = self.fills[at].packed + self.tail
