@@ -5,7 +5,8 @@ Run: python3 tests/compare.py --program CMD [--lines N] [--seed S] [--told DIR]
      python3 tests/compare.py --ahead DIR     the reference's answers alone, kept for --told DIR
 
 Ends with 0 exactly when no answer differs and every entry and number was reached, each place where
-an equilibrium pressure can stand, and all that the panel can be shown.
+an equilibrium pressure can stand, every kind of bidirectional draw, and all that the panel can be
+shown.
 """
 
 import argparse
@@ -14,8 +15,11 @@ from collections import Counter
 from concurrent.futures import ThreadPoolExecutor
 from itertools import islice
 
+import draw_kinds
 from cases import cases
 from cases.grammar import NAMES
+from cases.shapes import Draw
+from outcomes import BAD, NONE, OK, outcome, record_of
 from programs import REFERENCE, Stopped, command, is_silent, run
 from shown import Shown
 from standings import ACCEPTED, FAULTY, SIDES, standings
@@ -24,8 +28,6 @@ from told import Told
 BATCH = 10_000
 SHOWN = 5
 WIDTH = 240
-
-OK, NONE, BAD = "ok", "no part", "bad line"
 
 # What each entry can answer (01, Numbers given back, and the page on the line program).
 REACHES = {
@@ -38,6 +40,8 @@ REACHES = {
     "draw": (OK, 1, 3, 5, 2, 6, 9),
     "fill": (OK, 1, 3, 5, 2),
     "passes": (OK, 1, 3, 5, 2, 6),
+    "bidirectional": (OK, 1, 3, 5, 2, 6, 9),
+    "trips": (OK, 1, 3, 5, 2, 6),
     "ticket": (OK, 10, 11),
     "live": (OK, 12, 13),
     "panel_temperature": (OK, 13),
@@ -56,21 +60,6 @@ REACHES = {
 
 # What each entry answers where P is below Pe.
 BELOW_EQUILIBRIUM = {"cpl": 5, "ticket": 10, "prove": 5, "runs": NONE, "run": 5}
-
-
-def outcome(answer):
-    if answer == b"ok -":
-        return NONE
-    if answer.startswith(b"ok"):
-        return OK
-    if answer.startswith(b"refused "):
-        return int(answer.split(b" ")[1])
-    return BAD
-
-
-def record_of(answer):
-    """The record that a refusal names, 0 for none."""
-    return int(answer.split(b" ")[2]) if answer.startswith(b"refused ") else 0
 
 
 def entry_of(line):
@@ -103,6 +92,7 @@ class Comparison:
         self.lines = 0
         self.reached = Counter()
         self.stood = Counter()
+        self.drawn = Counter()
         self.shown = Shown()
         self.differences = 0
 
@@ -137,6 +127,9 @@ class Comparison:
         if what != BAD:
             for side, where in standings(entry, line, record_of(answer)):
                 self.stood[entry, side, where, what] += 1
+        if what != BAD and entry in draw_kinds.ENTRIES:
+            for kind in {*draw_kinds.reached(Draw.read(line.removesuffix(b"\r")))}:
+                self.drawn[entry, what, kind] += 1
 
     def differ(self, lines, at, expected, found):
         self.differences += 1
@@ -167,6 +160,12 @@ class Comparison:
                     for where, what in wanted
                     if not self.stood[entry, side, where, what]
                 ]
+        missing += [
+            f"{entry} {what} with {kind}"
+            for entry in draw_kinds.ENTRIES
+            for what, kind in draw_kinds.wanted(entry)
+            if not self.drawn[entry, what, kind]
+        ]
         missing += self.shown.missing()
         return missing
 
