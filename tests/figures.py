@@ -1,4 +1,5 @@
-"""The figures to hold against (01), and 000's propane (02): each through the line program.
+"""The figures to hold against (01), 000's propane and 003's bidirectional prover (02): each through
+the line program.
 
 Run: python3 tests/figures.py [--program CMD]
 """
@@ -10,6 +11,7 @@ from cases.plain import plain_job
 from cases.shapes import Draw, Fill, Job, Prover, Report, Run, line
 from cases.singles import bits, reading
 from programs import REFERENCE, Stopped, answers_of, command
+from worked import WorkedDraws
 
 OK = "ok"
 
@@ -72,6 +74,20 @@ def draw_figures():
     yield "9702.00 cubic inches", Draw(barrel).draw, "ok 970200 10000 1"
 
 
+def round_trip_figures():
+    """Example 2 of 003, 18 fills; and Figure 1 of 000 out and back, each trip twice its 40491.58."""
+    worked = WorkedDraws()
+    example = worked.draw("003 Ex 2", "123456")
+    yield "Example 2's round trips", example.trips, "ok 3 4238695 4239076 4238985"
+    yield "Example 2", example.bidirectional, "ok 4238919 43691 1"
+    yield "its passes, which do not agree", example.draw, "refused 9 0"
+    cut_short = worked.draw("003 Ex 2", "12345")
+    yield "Example 2 without its last pass", cut_short.bidirectional, "refused 1 0"
+    figure = worked.draw("000 Fig 1", "111111")
+    yield "Figure 1's round trips", figure.trips, "ok 3 8098316 8098316 8098316"
+    yield "Figure 1 out and back", figure.bidirectional, "ok 8098316 83471 1"
+
+
 def ticket_figure():
     asked = line("ticket", 10_000_000, 10_050_000, 10002, 9908, 40, 820, 0, 500)
     yield "the ticket", asked, "ok 9913 49565 49317"
@@ -105,6 +121,7 @@ PARTS = (
     propane_figures,
     group_figures,
     draw_figures,
+    round_trip_figures,
     ticket_figure,
     live_figures,
     book_figures,
@@ -112,7 +129,7 @@ PARTS = (
 
 
 def main():
-    options = argparse.ArgumentParser(description="Run the figures of document 01.")
+    options = argparse.ArgumentParser(description="Run the figures of the paper.")
     options.add_argument("--program", type=command, help="the command of the program under test")
     chosen = options.parse_args()
 

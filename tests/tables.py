@@ -8,39 +8,23 @@ one fail. With --program the program under test must give the reference's answer
 """
 
 import argparse
-import csv
 import sys
 from decimal import ROUND_HALF_UP, Decimal
 from itertools import cycle, islice
-from pathlib import Path
 
 from cases.arithmetic import half_up
 from cases.shapes import Draw, Fill, Job, Prover, Run, Ticket, line
 from programs import REFERENCE, Stopped, answers_of, command
+from worked import WorkedDraws, fill_of, nearest_units, plain_fill, rows, units
 
-VECTORS = Path(__file__).parents[1] / "vectors"
 FILES = (
     "cts_tables cts_points cps_table cps_points cpl_points ccts_points ctdw_points"
-    " fills passes draws barrels provings proving_runs tickets repeatability"
+    " fills passes trips draws barrels provings proving_runs tickets repeatability"
 ).split()
 
-
-def rows(name):
-    with open(VECTORS / f"{name}.csv", encoding="utf-8", newline="") as file:
-        yield from csv.DictReader(text for text in file if not text.startswith("#"))
-
-
-def units(text, places):
-    """A printed decimal as a whole number of 10^-places."""
-    scaled = Decimal(text).scaleb(places)
-    if scaled != int(scaled):
-        raise ValueError(f"{text} has more than {places} places")
-    return int(scaled)
-
-
-def nearest_units(text, places):
-    """The same where more places are printed than 01 takes."""
-    return int(Decimal(text).scaleb(places).quantize(Decimal(1), ROUND_HALF_UP))
+# By a prover's type the entry that answers its base volume, and the one that answers what that is
+# the mean of.
+DRAW_ENTRIES = {"unidirectional": ("draw", "passes"), "bidirectional": ("bidirectional", "trips")}
 
 
 def agrees(printed, ours):
@@ -147,19 +131,6 @@ def ctdw_points(tables):
         tables.answered(row["place"], "volume × CTDW", row["printed_drawn"], draw.fill(), 4, 3)
 
 
-def fill_of(row, pass_number=1):
-    return Fill(
-        units(row["certified"], 2),
-        units(row["scale"], 2),
-        units(row["prover_temperature"], 1),
-        units(row["measure_temperature"], 1),
-        int(row["measure_coefficient"]),
-        units(row["ctdw"], 6),
-        pass_number,
-        int(row["pressure"]),
-    )
-
-
 def fills(tables):
     for row in rows("fills"):
         # 01 holds scale readings within 100 cubic inches: Example 4's are out of range
@@ -171,49 +142,14 @@ def fills(tables):
         tables.answered(place, "drawn", row["printed_drawn"], draw.fill(), 4, 2)
 
 
-class WorkedDraws:
-    """The worked examples as records; a pass whose fills are not usable is one fill of its sum."""
-
-    def __init__(self):
-        self.passes = {(row["example"], row["pass"]): row for row in rows("passes")}
-        self.fills = {}
-        for row in rows("fills"):
-            self.fills.setdefault((row["example"], row["pass"]), []).append(row)
-
-    def prover(self, example):
-        """The example's pipe; its metal where its fills are usable, else any."""
-        row = next(row for (of, _), row in self.passes.items() if of == example)
-        pipe = units(row["inside"], 3), units(row["wall"], 3), int(row["modulus"])
-        for (of, _), own in self.fills.items():
-            if of == example:
-                return Prover(4, int(own[0]["prover_coefficient"]), *pipe)
-        return Prover(0, 0, *pipe)
-
-    def pass_of(self, example, number, as_number):
-        prover = self.prover(example)
-        own = self.fills.get((example, number))
-        if own and example != "003 Ex 4":
-            return [fill_of(row, as_number) for row in own]
-        row = self.passes[example, number]
-        volume = nearest_units(row["printed_sum"], 2)
-        return [plain_fill(volume, prover, as_number, int(row["pressure"]))]
-
-
-def plain_fill(volume, prover, pass_number, pressure=0):
-    return Fill(volume, coefficient=prover.coefficient, pass_number=pass_number, pressure=pressure)
-
-
 def passes(tables):
     worked = WorkedDraws()
     for (example, number), row in worked.passes.items():
         # a draw needs three passes: the one asked for, three times
-        thrice = []
-        for as_number in (1, 2, 3):
-            thrice += worked.pass_of(example, number, as_number)
-        draw = Draw(tuple(thrice), worked.prover(example))
+        draw = worked.draw(example, [number] * 3)
         place = f"{example} pass {number}"
         tables.answered(place, "pass", row["printed_pass"], draw.passes, 1, 2)
-        asked = [tables.ask(draw.fill(at)) for at in range(len(thrice) // 3)]
+        asked = [tables.ask(draw.fill(at)) for at in range(len(draw.fills) // 3)]
         tables.value(
             place, "sum", row["printed_sum"], lambda answers, asked=asked: sum_of(answers, asked)
         )
@@ -223,22 +159,36 @@ def sum_of(answers, asked):
     return str(sum(Decimal(picked(answers[at], 4, 2)) for at in asked))
 
 
+def trips(tables):
+    worked = WorkedDraws()
+    for row in rows("trips"):
+        # a draw needs three round trips: the one asked for, three times
+        draw = worked.draw(row["example"], [row["out"], row["back"]] * 3)
+        place = f"{row['example']} passes {row['out']} {row['back']}"
+        tables.answered(place, "round trip", row["printed_trip"], draw.trips, 1, 2)
+        asked = tables.ask(draw.trips)
+        tables.value(
+            place,
+            "half of the round trip",
+            row["printed_half"],
+            lambda answers, asked=asked: half_of(answers[asked]),
+        )
+
+
+def half_of(answer):
+    trip = picked(answer, 1, 2)
+    return str(Decimal(trip) / 2) if is_number(trip) else trip
+
+
 def draws(tables):
     worked = WorkedDraws()
     for row in rows("draws"):
-        example, prover = row["example"], worked.prover(row["example"])
-        taken = []
-        for as_number, number in enumerate(row["passes"].split(), 1):
-            if (example, number) in worked.passes:
-                taken += worked.pass_of(example, number, as_number)
-            else:
-                # Example 1 pass 1: only its volume is in the text
-                taken.append(plain_fill(units("20869.82", 2), prover, as_number))
-        draw = Draw(tuple(taken), prover)
-        place = f"{example} passes {row['passes']}"
-        tables.answered(place, "base", row["printed_base"], draw.draw, 0, 2)
-        tables.answered(place, "barrels", row["printed_barrels"], draw.draw, 1, 4)
-        asked = tables.ask(draw.passes)
+        base, volumes = DRAW_ENTRIES[row["type"]]
+        draw = worked.draw(row["example"], row["passes"].split())
+        place = f"{row['example']} passes {row['passes']}"
+        tables.answered(place, "base", row["printed_base"], draw.asked(base), 0, 2)
+        tables.answered(place, "barrels", row["printed_barrels"], draw.asked(base), 1, 4)
+        asked = tables.ask(draw.asked(volumes))
         tables.value(
             place,
             "range",
@@ -248,7 +198,7 @@ def draws(tables):
 
 
 def range_of(answer):
-    """The range of the passes in percent of the smallest, at 3 places."""
+    """The range of the volumes in percent of the smallest, at 3 places."""
     volumes = [int(word) for word in answer.split()[2:]]
     return str(Decimal(half_up((max(volumes) - min(volumes)) * 10**5, min(volumes))).scaleb(-3))
 
