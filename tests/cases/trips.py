@@ -130,15 +130,18 @@ def other_groupings():
 
 def means():
     """Every rest of a mean; barrels about their halves, and where they turn on the base being
-    rounded: a third of 0.01 cubic inch lies between the mean and the base."""
+    rounded: where a half lies between the mean, a third of 0.01 cubic inch away, and the base."""
     barrel, half = 970_200, 48
     for off in range(9):
         yield plain_trips([(1_000_000, 1_000_000)] * 2 + [(1_000_000, 1_000_000 + off)])
         yield plain_trips([(3 * barrel, 2 * barrel + half + off)] * 3)
-    # 0.00255 barrel are 2474.01 of 0.01 cubic inch, 0.00125 barrel 1212.75
-    for past, ups in ((2_474, 1), (1_212, 2)):
-        back = [2 * barrel + past + (trip < ups) for trip in range(3)]
-        yield plain_trips([(3 * barrel, volume) for volume in back])
+    for place in range(0, 100, 7):
+        whole, hundredths = divmod(9702 * place + 4851, 100)
+        if 33 <= hundredths <= 66:
+            continue
+        up = 1 if hundredths < 33 else 2
+        backs = [2 * barrel + whole + 1] * up + [2 * barrel + whole] * (3 - up)
+        yield plain_trips([(3 * barrel, back) for back in backs])
 
 
 def pressures(rng):
