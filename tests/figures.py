@@ -75,7 +75,7 @@ def draw_figures():
 
 
 def round_trip_figures():
-    """Example 2 of 003, 18 fills; and Figure 1 of 000 out and back, each trip twice its 40491.58."""
+    """Example 2 of 003, 18 fills; Figure 1 of 000 out and back, each trip twice its 40491.58."""
     worked = WorkedDraws()
     example = worked.draw("003 Ex 2", "123456")
     yield "Example 2's round trips", example.trips, "ok 3 4238695 4239076 4238985"
