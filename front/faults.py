@@ -4,7 +4,8 @@ table of ranges, or by asking the line program; nothing is worked out here."""
 from dataclasses import replace
 
 from . import fields, figures
-from .program import Refused, hexed
+from .profiles import BIDIRECTIONAL
+from .program import Refused
 from .records import FILL_LAYOUT, RUN_LAYOUT
 from .refusals import Detail, Explained
 from .units import shown
@@ -116,7 +117,7 @@ def of_draw(job, refusal, program):
             few, many = fields.FILLS
             if not few <= len(job.fills) <= many:
                 return of_count("fills", len(job.fills), fields.FILLS)
-            return of_count("passes", job.fills[-1].counts["pass"], fields.PASSES)
+            return of_passes(job.fills[-1].counts["pass"], job.profile)
         case 3:
             return of_prover(job.prover, False)
         case 5:
@@ -127,11 +128,23 @@ def of_draw(job, refusal, program):
             words = at + broken_pass(job.fills[: refusal.record])
             return [Detail(words, "pass", fill.counts["pass"], unit=fields.NUMBER)]
         case 9:
-            _, *volumes = program.numbers("passes", *job.prover.words, hexed(job.records))
-            told = " ".join(shown(volume, 2) for volume in volumes)
+            told = " ".join(shown(volume, 2) for volume in figures.judged(job, program))
             limit = fields.LIMIT.text(fields.DRAW_LIMIT)
-            return [f"passes {told} in³: no three in a row lie within {limit} of the smallest"]
+            return [f"{job.profile.judged} {told} in³: no three in a row lie within {limit} of the smallest"]
     return []
+
+
+def of_passes(count, profile):
+    """A count of passes that the profile does not take; of a bidirectional draw one within the ends is odd."""
+    if profile is not BIDIRECTIONAL:
+        return of_count("passes", count, profile.passes)
+    few, many = profile.passes
+    own = "1 pass" if count == 1 else f"{count} passes"
+    takes = f"a {profile.name} draw takes an even number, {few} to {many}"
+    if few <= count <= many:
+        return [Detail(f"{own}, an odd number: {takes}", "passes", count, unit=fields.NUMBER)]
+    beyond = f"fewer than {few}" if count < few else f"more than {many}"
+    return [Detail(f"{own}, {beyond}: {takes}", "passes", count, few, many, fields.NUMBER)]
 
 
 def broken_pass(fills):

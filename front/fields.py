@@ -155,4 +155,7 @@ def heading_label(key):
 
 
 RUNS, FILLS, PASSES = (5, 20), (3, 60), (3, 20)
+# 02, of a bidirectional draw: 'an odd count of passes, or a count outside 6 to 20, is 1'.
+PAIRED_PASSES = (6, 20)
+# A group of a draw is of passes or of round trips.
 GROUP_OF_RUNS, GROUP_OF_PASSES = 5, 3

@@ -33,7 +33,7 @@ class Outcome:
 
 @dataclass(frozen=True)
 class Group:
-    """Runs or passes in a row. `spread` is in 0.001 % of the smallest; all figures are the program's."""
+    """Runs, passes or round trips in a row. `spread` is in 0.001 % of the smallest; all figures are the program's."""
 
     first: int
     values: tuple
@@ -55,7 +55,7 @@ def prove(job, program):
 
 
 def group_of(first, values, program):
-    """These runs or passes, from the number of the first, with their spread."""
+    """These values in a row, from the number of the first, with their spread."""
     return Group(first, tuple(values), *program.numbers("spread", *values))
 
 
@@ -77,18 +77,23 @@ def of_fills(job, program):
     return [dict(zip(OF_A_FILL, program.numbers("fill", *metal, hexed(fill.record)))) for fill in job.fills]
 
 
-def volumes_of(job, records, program):
-    """The volume of each pass of such fills."""
-    _, *volumes = program.numbers("passes", *job.prover.words, hexed(records))
+def volumes_of(line, job, records, program):
+    """The volume of each pass or round trip of such fills, by the line that tells them."""
+    _, *volumes = program.numbers(line, *job.prover.words, hexed(records))
     return volumes
+
+
+def judged(job, program):
+    """The volumes that must agree: those of the passes, or of the round trips."""
+    return volumes_of(job.profile.volumes, job, job.records, program)
 
 
 def of_passes(job, program):
     """Each pass: its fills' sum, its CPS and CPL, its volume."""
-    pipe, volumes = job.prover.pipe.values(), volumes_of(job, job.records, program)
+    pipe, volumes = job.prover.pipe.values(), volumes_of("passes", job, job.records, program)
     # At 0 psi both factors are 1, so that the passes are the sums of their fills.
     unpressed = b"".join(FILL_LAYOUT.pack({**fill.counts, "pressure": 0}) for fill in job.fills)
-    sums = volumes_of(job, unpressed, program)
+    sums = volumes_of("passes", job, unpressed, program)
     pressures = {fill.counts["pass"]: fill.counts["pressure"] for fill in job.fills}
     return [
         {
@@ -103,9 +108,18 @@ def of_passes(job, program):
     ]
 
 
+def of_trips(job, passes, program):
+    """Each round trip of a bidirectional draw: its out pass, its back pass, its volume."""
+    pairs = zip(passes[::2], passes[1::2])
+    return [
+        {"trip": number, "out": out, "back": back, "volume": volume}
+        for number, ((out, back), volume) in enumerate(zip(pairs, judged(job, program)), 1)
+    ]
+
+
 def draw(job, program):
     """Base volume in 0.01 cubic inch, in 0.0001 barrel, and the first pass used."""
-    return tuple(program.numbers("draw", *job.prover.words, hexed(job.records)))
+    return tuple(program.numbers(job.profile.draw, *job.prover.words, hexed(job.records)))
 
 
 def ticket(job, program):

@@ -5,9 +5,10 @@ from hashlib import sha256
 
 from . import entry_files, fields
 from .badfile import BadFile
-from .hints import echo
+from .hints import echo, near, offer
 from .jobfiles import File, octets_of
 from .kinds import Draw, Entry, Live, Panel, Prover, Proving, Ticket
+from .profiles import PROFILES, UNIDIRECTIONAL, says_bidirectional
 from .records import FILL_LAYOUT, LENGTH, RUN_LAYOUT
 from .singles import single
 from .tables import TOLD, Table, kind_of
@@ -18,6 +19,7 @@ MOST_ENTRIES = 4096
 KIND_OF_TABLE = {"run": "prove", "runs": "prove", "fill": "draw", "fills": "draw"}
 KIND_OF_TABLE |= {"ticket": "ticket", "live": "live", "panel": "panel"}
 PROVER = ("metal", "coefficient", *fields.PIPE, "base_volume")
+PROVER_OF_DRAW = ("profile", *PROVER)
 OF_PROVING = ("request", "repeatability_limit")
 # Where a key belongs, to be told where it stands elsewhere.
 HOMES_OF_PROVER = dict.fromkeys(PROVER, "in [prover]")
@@ -26,12 +28,17 @@ HOMES_OF_PROVING = {
     **dict.fromkeys(fields.RUN, "in [[run]] or [every_run]"),
     **dict.fromkeys(OF_PROVING, "at the top of the file, above the first [table]"),
     "k_factor": "in [meter]",
+    # A proving takes the base volume as it is given, of either profile.
+    "profile": "in [prover] of a water draw",
 }
-HOMES_OF_DRAW = HOMES_OF_PROVER | dict.fromkeys(fields.FILL, "in [[fill]] or [every_fill]")
+HOMES_OF_DRAW = {
+    **dict.fromkeys(PROVER_OF_DRAW, "in [prover]"),
+    **dict.fromkeys(fields.FILL, "in [[fill]] or [every_fill]"),
+}
 
 
-def prover_of(table, base_needed, homes):
-    table.only(PROVER, homes)
+def prover_of(table, known, base_needed, homes):
+    table.only(known, homes)
     metals = ", ".join(fields.METALS)
     if "metal" not in table.values and "coefficient" not in table.values:
         table.lacks("metal", f"one of {metals}, or a certified coefficient")
@@ -45,6 +52,21 @@ def prover_of(table, base_needed, homes):
         coefficient = table.count(fields.COEFFICIENT)
     pipe = {key: table.count(each) for key, each in fields.PIPE.items()}
     return Prover(metal, coefficient, pipe, table.count(fields.BASE_VOLUME, None if base_needed else 0))
+
+
+def profile_of(top, table, heading):
+    """The profile of a draw by its [prover]: unidirectional where the file does not say it."""
+    if "profile" not in table.values:
+        if says_bidirectional(heading.get("profile")):
+            # Every key is free there, and the draw would be worked as what it is not.
+            top.table("heading").bad("profile", f"stands in [heading] and belongs {HOMES_OF_DRAW['profile']}")
+        return UNIDIRECTIONAL
+    name = table.text("profile")
+    if name is not None and name not in PROFILES:
+        offered = near(name, PROFILES)
+        meant = f"{offer(offered, PROFILES)} Expected" if offered else "expected"
+        table.bad("profile", f"{echo(name)} is not known: {meant} one of {', '.join(PROFILES)}")
+    return PROFILES.get(name, UNIDIRECTIONAL)
 
 
 def entries_of(top, key, known, layout, homes):
@@ -98,7 +120,7 @@ def proving_of(top):
         top.file.path,
         heading_of(top, OF_PROVING),
         top.count(fields.REQUEST),
-        prover_of(top.table("prover"), True, HOMES_OF_PROVING),
+        prover_of(top.table("prover"), PROVER, True, HOMES_OF_PROVING),
         meter.count(fields.K_FACTOR),
         top.count(fields.LIMIT, fields.HOUSE_LIMIT),
         entries_of(top, "run", fields.RUN, RUN_LAYOUT, HOMES_OF_PROVING),
@@ -107,9 +129,11 @@ def proving_of(top):
 
 def draw_of(top):
     top.only(["heading", "prover", "every_fill", "fill", "fills"], HOMES_OF_DRAW)
-    prover = prover_of(top.table("prover"), False, HOMES_OF_DRAW)
+    table = top.table("prover")
+    prover = prover_of(table, PROVER_OF_DRAW, False, HOMES_OF_DRAW)
     fills = entries_of(top, "fill", fields.FILL, FILL_LAYOUT, HOMES_OF_DRAW)
-    return Draw(top.file.path, heading_of(top), prover, fills)
+    heading = heading_of(top)
+    return Draw(top.file.path, heading, prover, fills, profile_of(top, table, heading))
 
 
 def sole_table(top, key, known):

@@ -4,6 +4,7 @@ a page is known to be the job's; `files` are read with it because it names them,
 from dataclasses import dataclass
 
 from . import fields
+from .profiles import UNIDIRECTIONAL, Profile
 
 
 @dataclass(frozen=True)
@@ -67,6 +68,7 @@ class Draw:
     heading: dict
     prover: Prover
     fills: list
+    profile: Profile = UNIDIRECTIONAL
     digest: str = ""
     files: tuple = ()
     kind = "draw"

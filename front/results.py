@@ -100,11 +100,11 @@ def proved(job, program):
 
 def drawn(job, program):
     cubic_inches, barrels, first = figures.draw(job, program)
-    three = figures.volumes_of(job, job.records, program)[first - 1 :][: fields.GROUP_OF_PASSES]
+    volumes, number = figures.judged(job, program), job.profile.number_of(first)
     return {
         "base volume (bbl)": shown(barrels, 4, False),
         "base volume (in³)": shown(cubic_inches, 2, False),
-        **spread_of(figures.group_of(first, three, program)),
+        **spread_of(works.group_of(volumes, fields.GROUP_OF_PASSES, number, program)),
         "first used": first,
         "out of": job.fills[-1].counts["pass"],
     }

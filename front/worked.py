@@ -3,6 +3,7 @@
 from dataclasses import dataclass
 
 from . import faults, fields, figures
+from .profiles import BIDIRECTIONAL
 from .program import Refused
 from .refusals import Explained
 
@@ -16,18 +17,25 @@ class Worked:
     job: object
     answer: object = None
     refusal: Explained | None = None
-    # A proving's runs, or a draw's fills and passes; the group is the accepted one, else the nearest to it.
+    # A proving's runs, or a draw's fills and passes, and a bidirectional draw's round trips; the group is the accepted
+    # one, else the nearest to it.
     runs: list | None = None
     fills: list | None = None
     passes: list | None = None
+    trips: list | None = None
     group: figures.Group | None = None
     # What the panel shows of a live reading, a single each.
     panel: dict | None = None
 
     @property
     def accepted(self):
-        """The numbers of the accepted runs or passes."""
+        """The numbers of the accepted runs, passes or round trips."""
         return self.group.numbers if self.group and not self.refusal else ()
+
+    @property
+    def judged(self):
+        """Those of which three in a row must agree: a draw's round trips, or its passes."""
+        return self.trips or self.passes
 
     @property
     def has_figures(self):
@@ -49,8 +57,10 @@ def draw(job, program):
     if refusal and refusal.number != NO_GROUP:
         return Worked(job, refusal=refusal)
     fills, passes = figures.of_fills(job, program), figures.of_passes(job, program)
-    group = group_of([own["volume"] for own in passes], fields.GROUP_OF_PASSES, answer and answer[2], program)
-    return Worked(job, answer, refusal, fills=fills, passes=passes, group=group)
+    trips = figures.of_trips(job, passes, program) if job.profile is BIDIRECTIONAL else None
+    first = answer and job.profile.number_of(answer[2])
+    group = group_of([own["volume"] for own in trips or passes], fields.GROUP_OF_PASSES, first, program)
+    return Worked(job, answer, refusal, fills=fills, passes=passes, trips=trips, group=group)
 
 
 def group_of(values, size, first, program):
