@@ -1,12 +1,15 @@
-"""The water draw report: fills, passes, the base volume."""
+"""The water draw report: fills, passes, a bidirectional prover's round trips, the base volume."""
+
+from itertools import cycle
 
 from . import fields, page, spreads
 from .fields import BARREL, CUBIC_INCH, FINE_FACTOR, LIMIT
 from .page import Grid, Notes, Page, Pairs, Section, Signatures
+from .profiles import BIDIRECTIONAL, WAYS
 from .report import prover_pairs
 from .units import shown
 
-TITLE, RIGHT = "WATER DRAW REPORT", "unidirectional pipe prover, API MPMS 12.2 Part 4"
+TITLE, RIGHT = "WATER DRAW REPORT", "{} pipe prover, API MPMS 12.2 Part 4"
 # Columns by group, as in the proving report: a count of the fill's record, or a figure.
 READ = (
     ("", (("Pass", "", "pass"), ("P", "psi", "pressure"))),
@@ -40,6 +43,11 @@ STEPS_KEY = (
     "drawn = adjusted x CTDW x CCTS.",
 )
 PASSES_KEY = (f"Volume of a pass = sum of its fills / (CPS x CPL), water's F {fields.PER_PSI.text(fields.WATER)}.",)
+TRIP_COLUMNS = (
+    ("", (("Trip", ""), ("", ""))),
+    *((way.capitalize(), (("Pass", ""), ("Volume", "in³"))) for way in WAYS),
+    ("Out + back", (("Volume", "in³"),)),
+)
 
 
 def fill_cell(key, fill, figures):
@@ -59,27 +67,55 @@ def fills_table(job, figures, columns):
     return Grid(groups, rows)
 
 
+def settings(job):
+    """A unidirectional page says its profile in its title alone."""
+    told = prover_pairs(job.prover)
+    if job.profile is BIDIRECTIONAL:
+        told.append(("Profile", f"{job.profile.name}: odd passes out, even back"))
+    limit = f"{LIMIT.text(fields.DRAW_LIMIT)} of the smallest of three consecutive {job.profile.judged}"
+    return Pairs([*told, ("Repeatability limit", limit)])
+
+
+def mark(number, worked):
+    return "*" if number in worked.accepted else ""
+
+
+def foot_of(worked, columns):
+    """Beneath what is judged the mean of the accepted three, in the last column, which is the base volume."""
+    return ["avg", "*", *[""] * (columns - 3), shown(worked.answer[0], CUBIC_INCH.places)] if worked.answer else ()
+
+
 def passes_table(worked):
-    """The passes; beneath them the mean of the accepted three, which is the base volume."""
-    columns = [("Pass", ""), ("", ""), *(column[:2] for column in PASS_COLUMNS)]
+    """The passes: each with its mark where they are judged, or with the way that it goes where they come in pairs."""
+    ways = cycle(WAYS) if worked.trips else [mark(each["pass"], worked) for each in worked.passes]
+    columns = [("Pass", ""), ("Direction" * bool(worked.trips), ""), *(column[:2] for column in PASS_COLUMNS)]
     rows = [
-        [str(each["pass"]), "*" if each["pass"] in worked.accepted else ""]
-        + [shown(each[key], places) for _, _, key, places in PASS_COLUMNS]
-        for each in worked.passes
+        [str(each["pass"]), way, *(shown(each[key], places) for _, _, key, places in PASS_COLUMNS)]
+        for each, way in zip(worked.passes, ways)
     ]
-    foot = ()
-    if worked.answer:
-        foot = ["avg", "*", *[""] * (len(PASS_COLUMNS) - 1), shown(worked.answer[0], CUBIC_INCH.places)]
-    return Grid([("", columns)], rows, foot)
+    return Grid([("", columns)], rows, () if worked.trips else foot_of(worked, len(columns)))
+
+
+def trips_table(worked):
+    rows = [
+        [str(each["trip"]), mark(each["trip"], worked)]
+        + [cell for way in WAYS for cell in (str(each[way]["pass"]), shown(each[way]["volume"], CUBIC_INCH.places))]
+        + [shown(each["volume"], CUBIC_INCH.places)]
+        for each in worked.trips
+    ]
+    return Grid(list(TRIP_COLUMNS), rows, foot_of(worked, len(rows[0])))
 
 
 def repeatability(worked):
-    group, limit = worked.group, fields.DRAW_LIMIT
-    span = f"{group.numbers[0]} to {group.numbers[-1]} of {len(worked.passes)}"
+    group, limit, judged = worked.group, fields.DRAW_LIMIT, worked.job.profile.judged
+    span = f"{group.numbers[0]} to {group.numbers[-1]} of {len(worked.judged)}"
     if worked.refusal:
-        named = ("Best three", f"passes {span}: the three in a row that lie nearest together")
+        named = ("Best three", f"{judged} {span}: the three in a row that lie nearest together")
+    elif worked.trips:
+        first = worked.answer[2]
+        named = (f"Accepted {judged}", f"{span}, first pass used {first}: the first three that agree, marked *")
     else:
-        named = ("Accepted passes", f"{span}: the first three in a row that agree, marked *")
+        named = (f"Accepted {judged}", f"{span}: the first three in a row that agree, marked *")
     return Pairs(
         [
             named,
@@ -92,21 +128,30 @@ def repeatability(worked):
 
 def conclusion(worked):
     if worked.refusal:
-        return [Section("E. BASE VOLUME"), Notes(["None: the job is not accepted."])]
+        return Notes(["None: the job is not accepted."])
     base, barrels, _ = worked.answer
-    told = [("Base volume", f"{CUBIC_INCH.text(base)}, the mean of the three"), ("In barrels", BARREL.text(barrels))]
-    return [Section("E. BASE VOLUME"), Pairs(told)]
+    of_trip = " of a round trip" * bool(worked.trips)
+    told = f"{CUBIC_INCH.text(base)}{of_trip}, the mean of the three"
+    return Pairs([("Base volume", told), ("In barrels", BARREL.text(barrels))])
+
+
+def figures_of(worked):
+    """The page below what was read, each section under its letter."""
+    sections = [
+        ("PASSES", [passes_table(worked), Notes(PASSES_KEY)]),
+        *([("ROUND TRIPS", [trips_table(worked)])] if worked.trips else []),
+        ("REPEATABILITY", [repeatability(worked)]),
+        ("BASE VOLUME", [conclusion(worked)]),
+    ]
+    lettered = [[Section(f"{letter}. {name}"), *own] for letter, (name, own) in zip("CDEF", sections)]
+    return [fills_table(worked.job, worked.fills, STEPS), Notes(STEPS_KEY), *(each for own in lettered for each in own)]
 
 
 def build(worked):
     job = worked.job
-    limit = f"{LIMIT.text(fields.DRAW_LIMIT)} of the smallest of three consecutive passes"
-    blocks = [*page.heading(job), Section("A. SETTINGS")]
-    blocks += [Pairs([*prover_pairs(job.prover), ("Repeatability limit", limit)]), Section("B. FILLS")]
-    blocks.append(fills_table(job, [{}] * len(job.fills), READ))
-    if worked.fills:
-        blocks += [fills_table(job, worked.fills, STEPS), Notes(STEPS_KEY)]
-        blocks += [Section("C. PASSES"), passes_table(worked), Notes(PASSES_KEY)]
-        blocks += [Section("D. REPEATABILITY"), repeatability(worked), *conclusion(worked)]
-    nearest = [spreads.nearest("three: passes", worked.group, fields.DRAW_LIMIT)] if worked.group else []
-    return Page(TITLE, RIGHT, [*blocks, Signatures("Drawn")], page.verdict(worked.refusal, nearest))
+    blocks = [*page.heading(job), Section("A. SETTINGS"), settings(job), Section("B. FILLS")]
+    blocks += [fills_table(job, [{}] * len(job.fills), READ), *(figures_of(worked) if worked.fills else [])]
+    noun = f"three: {job.profile.judged}"
+    nearest = [spreads.nearest(noun, worked.group, fields.DRAW_LIMIT)] if worked.group else []
+    right = RIGHT.format(job.profile.name)
+    return Page(TITLE, right, [*blocks, Signatures("Drawn")], page.verdict(worked.refusal, nearest))

@@ -37,11 +37,14 @@ class Parts:
 
     @property
     def tight(self):
-        """The same with the last table of three beside the conclusion."""
+        """The same with the third table beside the conclusion, and a fourth above it there."""
         if len(self.grids) < 3:
             return self
-        last = max(at for at, block in enumerate(self.above) if isinstance(block, Section))
-        return Parts(self.above[:last], self.above[last:], self.conclusion, self.rest)
+        starts = [at for at, block in enumerate(self.above) if isinstance(block, Section)]
+        third = [at for at, block in enumerate(self.above) if isinstance(block, Grid)][2]
+        start = max(at for at in starts if at < third)
+        end = min([at for at in starts if at > third], default=len(self.above))
+        return Parts(self.above[:start], self.above[start:end], self.above[end:] + self.conclusion, self.rest)
 
 
 @dataclass(frozen=True)
@@ -132,14 +135,16 @@ def total(parts, verdict, size, beside, row, has_plot):
     sizes += max(grids[:beside], default=0) + sum(grids[beside:])
     taken = PLOT if has_plot else side_of(parts, size)
     share = WIDTH - taken - 3 if taken else WIDTH
-    concluded = sum(height(block, size, share) for block in parts.conclusion)
+    concluded = sum(height(block, size, share, row) for block in parts.conclusion)
     stands = PLOT * PLOT_SHAPE / size + 0.4 if has_plot else sum(height(each, size, taken, row) for each in parts.side)
     return (sizes + max(concluded, stands) + sum(height(block, size, WIDTH) for block in parts.rest)) * size
 
 
-def wide_enough(grids, size, beside):
-    widths = [width_of(grid) * size + 4 for grid in grids]
-    return max([sum(widths[:beside]), *widths[beside:]]) - 4 <= WIDTH
+def wide_enough(parts, size, beside):
+    widths = [width_of(grid) * size + 4 for grid in parts.grids]
+    concluded = [width_of(grid) * size + 4 for grid in grids_of(parts.conclusion)]
+    share = WIDTH - side_of(parts, size) - 3
+    return max([sum(widths[:beside]), *widths[beside:]]) - 4 <= WIDTH and max(concluded, default=0) <= share
 
 
 def largest(parts, verdict, row, has_plot):
@@ -148,7 +153,7 @@ def largest(parts, verdict, row, has_plot):
     count = int((LARGEST - SMALLEST) / STEP) + 1
     for size in (LARGEST - STEP * at for at in range(count)):
         for beside in range(1, len(grids) + 1) or (0,):
-            if wide_enough(grids, size, beside) and total(parts, verdict, size, beside, row, has_plot) <= HEIGHT:
+            if wide_enough(parts, size, beside) and total(parts, verdict, size, beside, row, has_plot) <= HEIGHT:
                 return Fit(round(size, 2), beside, row, parts)
     return Fit(SMALLEST, len(grids), row, parts)
 
