@@ -5,6 +5,7 @@ import json
 
 from . import fields, figures, version
 from .fields import BARREL, CUBIC_INCH, FACTOR, FINE_FACTOR, READING
+from .profiles import WAYS
 from .refusals import WORDS, Detail
 from .spreads import SPREAD
 
@@ -14,6 +15,7 @@ FILL_UNITS = {key: CUBIC_INCH if key in ("adjusted", "drawn") else FINE_FACTOR f
 PASS_UNITS = {
     "pressure": fields.PSI, "sum": CUBIC_INCH, "cps": FINE_FACTOR, "cpl": FINE_FACTOR, "volume": CUBIC_INCH,
 }  # fmt: skip
+TRIP_UNITS = {"volume": CUBIC_INCH}
 TICKET_UNITS = {"indicated": READING, "cpl": FACTOR, "factor": FACTOR, "gross": READING, "net": READING}
 
 
@@ -75,7 +77,7 @@ def prover(own):
 
 
 def group(own, unit, accepted):
-    """Runs or passes in a row; `spread` is rounded."""
+    """Runs, passes or round trips in a row; `spread` is rounded."""
     return {
         "first": own.numbers[0],
         "last": own.numbers[-1],
@@ -104,18 +106,25 @@ def proving(worked):
 
 def draw(worked):
     own = worked.job
-    limit = {"repeatability_limit": figure(fields.DRAW_LIMIT, fields.LIMIT.unit)}
+    settings = {"profile": own.profile.name} | prover(own.prover)
+    settings["repeatability_limit"] = figure(fields.DRAW_LIMIT, fields.LIMIT.unit)
     fills = [read_figures(fill.counts, fields.FILL) for fill in own.fills]
     for fill, told in zip(fills, worked.fills or ()):
         fill |= told_figures(told, FILL_UNITS)
-    told = {"settings": prover(own.prover) | limit, "fills": fills}
+    told = {"settings": settings, "fills": fills}
     if worked.passes:
         told["passes"] = [{"pass": each["pass"], **told_figures(each, PASS_UNITS)} for each in worked.passes]
+    if worked.trips:
+        told["round_trips"] = [
+            {"trip": each["trip"], **{way: each[way]["pass"] for way in WAYS}, **told_figures(each, TRIP_UNITS)}
+            for each in worked.trips
+        ]
     if worked.group:
         told["group"] = group(worked.group, CUBIC_INCH, bool(worked.answer))
     if worked.answer:
-        base, barrels, _ = worked.answer
+        base, barrels, first = worked.answer
         told["result"] = {"base_volume": figure(base, CUBIC_INCH), "in_barrels": figure(barrels, BARREL)}
+        told["result"]["first_pass"] = first
     return told
 
 

@@ -16,6 +16,7 @@ from .badfile import BadFile
 from .extras import Extras
 from .hints import echo, plain
 from .jobfiles import NAMES, octets_of
+from .profiles import UNIDIRECTIONAL
 from .records import LENGTH
 
 SAME, OTHER, CHANGED = "same", "other job", "changed"
@@ -47,14 +48,24 @@ def csv_parts(octets):
 
 
 def json_parts(octets):
-    """Its keys without the file's name, and without equilibrium pressures of 0: an earlier version has none of them."""
+    """Its keys without the file's name, and without those that an earlier version has not."""
     told = json.loads(octets)
+    leave_out_later(told)
+    told["job"] = {key: value for key, value in told["job"].items() if key != "file"}
+    return [f"{key}: {json.dumps(value, ensure_ascii=False)}" for key, value in told.items()]
+
+
+def leave_out_later(told):
+    """Takes out what later versions say where an earlier one says nothing, as long as it is what was meant there: an
+    equilibrium pressure of 0, a unidirectional profile, and then its first pass, which its group begins with."""
     for record in (*told.get("runs", ()), told.get("readings", {})):
         for key in fields.AT_MOST:
             if record.get(key) == as_json.figure(fields.DOES_NOT_BOIL, fields.PSI):
                 del record[key]
-    told["job"] = {key: value for key, value in told["job"].items() if key != "file"}
-    return [f"{key}: {json.dumps(value, ensure_ascii=False)}" for key, value in told.items()]
+    if told.get("command") == "draw" and told["settings"].get("profile", UNIDIRECTIONAL.name) == UNIDIRECTIONAL.name:
+        told["settings"].pop("profile", None)
+        if "result" in told and told["result"].get("first_pass") == told["group"]["first"]:
+            del told["result"]["first_pass"]
 
 
 def unpacked(octets):
