@@ -3,7 +3,10 @@
 Two products pass what a spreadsheet's numbers hold exactly: what is drawn is multiplied in two parts, and a pass is
 divided three digits at a time. docs/WORKSHEET.md says why no digit slips."""
 
+from itertools import cycle
+
 from . import fields
+from .profiles import WAYS
 from .sheet import Sheet, Step
 
 THREE = fields.GROUP_OF_PASSES
@@ -36,6 +39,8 @@ FACTORS = (
     Step("divisor", "CPS x CPL", "", "not rounded", "{cps}*{cpl}"),
 )  # fmt: skip
 
+TRIP_STEPS = (Step("trip", "Round trip", VOLUME, "out + back", "{out}+{back}"),)
+
 
 def long_division():
     """The sum over the divisor, three digits at a time: each step's digits and what is left over."""
@@ -50,20 +55,24 @@ def long_division():
 
 
 def build(worked):
-    job, passes = worked.job, worked.passes
-    sheet = Sheet("Water draw worksheet", job)
+    """Parts 1 to 4 are any draw's; a bidirectional one has its round trips behind them."""
+    job, count, trips = worked.job, len(worked.judged), worked.trips
+    sheet = Sheet("Bidirectional water draw worksheet" if trips else "Water draw worksheet", job)
     settings(sheet, job.prover)
     sheet.note("2. FILLS", "Unit of one", "", *(f"fill {at + 1}" for at in range(len(job.fills))))
     for key, field in fields.FILL.items():
         sheet.row(key, field.label, field.unit.step, "read", [fill.counts[key] for fill in job.fills])
     sheet.note("3. STEPS OF A FILL", "Unit of one", "each figure rounded once, halves up")
     sheet.steps(FILL_STEPS, len(job.fills))
-    passes_of(sheet, job, len(passes))
-    starts = range(len(passes) - THREE + 1)
-    sheet.note("5. THREE IN A ROW", "", "beginning with", *(f"pass {at + 1}" for at in starts))
-    sheet.groups("volume", len(passes), THREE, str(fields.DRAW_LIMIT), VOLUME)
-    results(sheet, worked.answer)
-    as_read(sheet, len(job.fills), len(passes))
+    passes_of(sheet, worked)
+    if trips:
+        trips_of(sheet, trips)
+    part, name, volume = (6, "trip", "trip") if trips else (5, "pass", "volume")
+    starts = range(count - THREE + 1)
+    sheet.note(f"{part}. THREE IN A ROW", "", "beginning with", *(f"{name} {at + 1}" for at in starts))
+    sheet.groups(volume, count, THREE, str(fields.DRAW_LIMIT), VOLUME)
+    results(sheet, worked, part + 1)
+    as_read(sheet, worked, part + 2)
     return sheet
 
 
@@ -74,32 +83,61 @@ def settings(sheet, prover):
         sheet.row(key, field.label, field.unit.step, "", [prover.pipe[key]])
 
 
-def passes_of(sheet, job, count):
+def passes_of(sheet, worked):
     """A column a pass; its fills stand beside each other."""
-    sheet.note("4. PASSES", "Unit of one", "", *(f"pass {at + 1}" for at in range(count)))
-    places = [[at for at, fill in enumerate(job.fills) if fill.counts["pass"] == number + 1] for number in range(count)]
+    numbers = [own["pass"] for own in worked.passes]
+    ways = cycle(f" {way}" for way in WAYS) if worked.trips else cycle([""])
+    sheet.note("4. PASSES", "Unit of one", "", *(f"pass {number}{way}" for number, way in zip(numbers, ways)))
+    fills = list(enumerate(worked.job.fills))
+    places = [[at for at, fill in fills if fill.counts["pass"] == number] for number in numbers]
     sums = [f"=SUM({sheet.span('drawn', own[0], own[-1])})" for own in places]
     pressures = [f"={sheet.cell('pressure', own[0])}" for own in places]
     sheet.row("at_pressure", "Pressure", fields.PSI.step, "of its fills", pressures)
     sheet.row("sum", "Sum of fills", VOLUME, "", sums)
-    sheet.steps([*FACTORS, *long_division()], count)
+    sheet.steps([*FACTORS, *long_division()], len(numbers))
 
 
-def results(sheet, answer):
-    sheet.note("6. RESULT", "Unit of one", "")
-    sheet.first_group("first", "First pass used")
+def trips_of(sheet, trips):
+    """A column a round trip, with the volumes of its two passes."""
+    sheet.note("5. ROUND TRIPS", "Unit of one", "", *(f"trip {own['trip']}" for own in trips))
+    for way in WAYS:
+        numbers = [own[way]["pass"] for own in trips]
+        label = f"{way.capitalize()} pass"
+        sheet.row(f"{way}_pass", label, "", "its number", numbers)
+        sheet.row(way, label, VOLUME, "its volume", [f"={sheet.cell('volume', number - 1)}" for number in numbers])
+    sheet.steps(TRIP_STEPS, len(trips))
+
+
+def results(sheet, worked, part):
+    sheet.note(f"{part}. RESULT", "Unit of one", "")
+    if worked.trips:
+        sheet.first_group("first_trip", "First round trip used")
+        first = f"INDEX({sheet.whole('out_pass')},{sheet.cell('first_trip')})"
+        sheet.row("first", "First pass used", "", "its out pass", [sheet.if_any(first)])
+    else:
+        sheet.first_group("first", "First pass used")
     sheet.of_first_group("base", "Base volume", VOLUME, "mean")
     base = sheet.cell("base")
     sheet.row("barrels", "Base volume", "0.0001 bbl", "/ 9702", [sheet.if_any(f"ROUND({base}*10000/970200,0)")])
-    told = answer or ("none", "none")
+    told = worked.answer or ("none", "none", "none")
     sheet.row("told", "Base volume of the report", VOLUME, "as Endakuro gave it", [told[0]])
     sheet.row("told_barrels", "Base volume of the report", "0.0001 bbl", "as Endakuro gave it", [told[1]])
-    sheet.agree([("base", "told", 0), ("barrels", "told_barrels", 0)])
+    same = [("base", "told", 0), ("barrels", "told_barrels", 0)]
+    if worked.trips:
+        volumes = [own["volume"] for own in worked.trips]
+        sheet.row("told_first", "First pass used of the report", "", "as Endakuro gave it", [told[2]])
+        sheet.row("told_trips", "Round trips of the report", VOLUME, "as Endakuro gave them", volumes)
+        same += [("first", "told_first", 0), *(("trip", "told_trips", at) for at in range(len(volumes)))]
+    sheet.agree(same)
 
 
-def as_read(sheet, fills, passes):
-    for name, steps, count in (("fill", FILL_STEPS, fills), ("pass", [*FACTORS, *long_division()], passes)):
-        sheet.note("7. AS READ", "Unit", "the steps with their points", *(f"{name} {at + 1}" for at in range(count)))
+def as_read(sheet, worked, part):
+    parts = [("fill", FILL_STEPS, worked.fills), ("pass", [*FACTORS, *long_division()], worked.passes)]
+    parts += [("trip", TRIP_STEPS, worked.trips)] if worked.trips else []
+    for name, steps, own in parts:
+        count = len(own)
+        heads = (f"{name} {at + 1}" for at in range(count))
+        sheet.note(f"{part}. AS READ", "Unit", "the steps with their points", *heads)
         for step in steps:
             if step.unit:
                 unit, places = ("in³", 2) if step.unit == VOLUME else ("", 6)
