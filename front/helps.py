@@ -2,6 +2,7 @@
 
 from . import book as books
 from . import fields
+from .profiles import BIDIRECTIONAL, UNIDIRECTIONAL
 
 ABOUT = """\
 Meter proving from job files. Every figure shown comes from the proved line program, which is
@@ -47,7 +48,18 @@ def prover(base):
         row("coefficient", f"{fields.COEFFICIENT.label}, {fields.COEFFICIENT.range};"),
         row("", "wins over the metal, one of both is needed"),
         *keys(fields.PIPE),
-        *(keys(fields.named(fields.BASE_VOLUME)) if base else [row("base_volume", "may be given, is not used")]),
+        *(keys(fields.named(fields.BASE_VOLUME)) if base else of_draw()),
+    ]
+
+
+def of_draw():
+    """What a prover's table says in a draw alone."""
+    one, two = (f"{own.name}, {own.passes[0]} to {own.passes[1]} passes" for own in (UNIDIRECTIONAL, BIDIRECTIONAL))
+    return [
+        row("base_volume", "may be given, is not used"),
+        row("profile", f"{one}, where it is left out;"),
+        row("", f"or {two} in pairs, odd out and even back: a round"),
+        row("", "trip is the sum of its two, and the base volume is that of a round trip"),
     ]
 
 
@@ -79,8 +91,8 @@ PROVE = described(
     entries("run", fields.RUN),
 )
 DRAW = described(
-    "Prints the report of a unidirectional water draw: a row a fill, the passes, the accepted three,\n"
-    "the base volume in cubic inches and barrels.",
+    "Prints the report of a water draw: a row a fill, the passes, a bidirectional prover's round trips, the\n"
+    "accepted three, the base volume in cubic inches and barrels.",
     prover(False),
     entries("fill", fields.FILL),
 )

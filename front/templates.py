@@ -1,6 +1,7 @@
 """A job file of each kind to begin with: it runs as it is, and says of every key what it is and its range."""
 
 from . import fields
+from .profiles import BIDIRECTIONAL, UNIDIRECTIONAL
 
 WIDTH = 34
 HEAD = """\
@@ -20,6 +21,14 @@ RUNS += (("17746", "64.0", "65.5"), ("17747", "64.0", "65.5"))
 OF_A_RUN = ("pulses", "prover_temperature", "meter_temperature")
 FILLS = (("1", "12.50"), ("2", "12.75"), ("3", "12.25"))
 OF_A_FILL = ("pass", "scale_reading")
+PAIRED_FILLS = (("1", "12.50", "45"), ("2", "27.25", "43"), ("3", "12.75", "45"), ("4", "27.50", "43"))
+PAIRED_FILLS += (("5", "12.25", "45"), ("6", "27.00", "43"))
+OF_A_PAIRED_FILL = ("pass", "scale_reading", "pressure")
+# What a draw's file says behind its profile.
+SAID = {
+    UNIDIRECTIONAL: 'or "bidirectional", for passes out and back: ./endakuro new bidirectional',
+    BIDIRECTIONAL: "passes come in pairs, odd out and even back; a pair may differ in pressure",
+}
 # In place of a value: the key stands there as a note, for those who need it.
 LEFT_OUT = None
 PROVER = {"inside_diameter": "13.376", "wall_thickness": "0.312", "modulus": "30_000_000"}
@@ -36,9 +45,10 @@ def rows(known, values):
     return "".join(row(known[key], value) for key, value in values.items())
 
 
-def prover(base):
+def prover(base, profile=None):
     metals = ", ".join(f'"{name}"' for name in fields.METALS)
-    text = f'\n[prover]\nmetal = "mild carbon" # one of {metals}\n'
+    text = "\n[prover]\n" + (f'profile = "{profile.name}" # {SAID[profile]}\n' if profile else "")
+    text += f'metal = "mild carbon" # one of {metals}\n'
     text += f"# coefficient = 0.0000186 # {fields.COEFFICIENT.label}, {fields.COEFFICIENT.range}: wins over the metal\n"
     return text + rows(fields.PIPE, PROVER) + (row(fields.BASE_VOLUME, base) if base else "")
 
@@ -65,13 +75,15 @@ def proving():
     return text + entries("run", fields.RUN, shared, OF_A_RUN, RUNS)
 
 
-def draw():
-    text = HEAD.format(what="A water draw", kind="draw") + HEADING.format(title="A water draw") + prover(None)
+def draw(profile, keys, fills):
+    named = "A bidirectional water draw" if profile is BIDIRECTIONAL else "A water draw"
+    text = HEAD.format(what=named, kind="draw") + HEADING.format(title=named) + prover(None, profile)
     shared = {
         "certified_volume": "23100.00", "prover_temperature": "72.0", "measure_temperature": "72.5",
         "measure_coefficient": "0.0000265", "ctdw": "1.000070", "pressure": "45",
     }  # fmt: skip
-    return text + entries("fill", fields.FILL, shared, OF_A_FILL, FILLS)
+    shared = {key: value for key, value in shared.items() if key not in keys}
+    return text + entries("fill", fields.FILL, shared, keys, fills)
 
 
 def ticket():
@@ -94,4 +106,11 @@ def panel():
     return text + "\n[panel]\n" + rows(fields.PANEL, {"temperature": "73.3", "pressure": "40"})
 
 
-TEXTS = {"prove": proving(), "draw": draw(), "ticket": ticket(), "live": live(), "panel": panel()}
+TEXTS = {
+    "prove": proving(),
+    "draw": draw(UNIDIRECTIONAL, OF_A_FILL, FILLS),
+    "bidirectional": draw(BIDIRECTIONAL, OF_A_PAIRED_FILL, PAIRED_FILLS),
+    "ticket": ticket(),
+    "live": live(),
+    "panel": panel(),
+}
