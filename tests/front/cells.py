@@ -60,14 +60,21 @@ def asked(program, *words):
         return None
 
 
-def of_draw(job, fills, passes, answer, program):
+def of_draw(worked, program):
+    job, fills, passes, answer = worked.job, worked.fills, worked.passes, worked.answer
     cells = {(key, at): own[key] for at, own in enumerate(fills) for key in figures.OF_A_FILL}
     for at, own in enumerate(passes):
         cells |= {(key, at): own[key] for key in ("sum", "cps", "cpl", "volume")}
         cells["at_pressure", at] = own["pressure"]
-    volumes = ("adjusted", "drawn", "volume")
+    # What is judged, by how many passes each is of and by the line for three of them.
+    volumes, each, line = [own["volume"] for own in passes], 1, "draw"
+    if worked.trips:
+        for at, (out, back) in enumerate(zip(volumes[::2], volumes[1::2])):
+            cells |= {("out", at): out, ("back", at): back, ("trip", at): out + back}
+        volumes, each, line = [own["volume"] for own in worked.trips], 2, "bidirectional"
+    read_as_volumes = ("adjusted", "drawn", "volume", "trip")
     factors = ("measure_cts", "prover_cts", "ccts", "cps", "cpl")
-    pointed = {(f"read_{key}", at): read(count, 2) for (key, at), count in cells.items() if key in volumes}
+    pointed = {(f"read_{key}", at): read(count, 2) for (key, at), count in cells.items() if key in read_as_volumes}
     pointed |= {(f"read_{key}", at): read(count, 6) for (key, at), count in cells.items() if key in factors}
     for at, (fill, own) in enumerate(zip(job.fills, fills)):
         water = own["adjusted"] * fill.counts["ctdw"]
@@ -76,14 +83,16 @@ def of_draw(job, fills, passes, answer, program):
         cells |= divided(at, own["sum"], own["cps"] * own["cpl"])
 
     def judged(at):
-        three = [fill.counts for fill in job.fills if at < fill.counts["pass"] <= at + 3]
-        records = b"".join(FILL_LAYOUT.pack({**counts, "pass": counts["pass"] - at}) for counts in three)
-        mean = asked(program, "draw", *job.prover.words, hexed(records))
+        before = at * each
+        three = [fill.counts for fill in job.fills if before < fill.counts["pass"] <= before + 3 * each]
+        records = b"".join(FILL_LAYOUT.pack({**counts, "pass": counts["pass"] - before}) for counts in three)
+        mean = asked(program, line, *job.prover.words, hexed(records))
         return (0, None) if mean is None else (1, mean)
 
-    cells |= pointed | groups([own["volume"] for own in passes], 3, fields.DRAW_LIMIT, judged)
+    cells |= pointed | groups(volumes, 3, fields.DRAW_LIMIT, judged)
     base, barrels, first = answer or ("none",) * 3
     cells |= {("first", 0): first, ("base", 0): base, ("barrels", 0): barrels, ("agree", 0): "yes"}
+    cells["first_trip", 0] = first // 2 + 1 if answer else first
     return cells | {("read_base", 0): read(base, 2), ("read_barrels", 0): read(barrels, 4)}
 
 

@@ -19,7 +19,7 @@ ON_TICKET = "equilibrium_pressure = 115 # psi gage\n"
 # Jobs of liquids that do not boil, by their kind.
 STILL = {
     "prove": ("figure-5", "worked-run", "second-five", "flow-computer", "refusals/prove-09-runs-drift"),
-    "draw": ("water-draw",),
+    "draw": ("water-draw", "bidirectional-draw"),
     "ticket": ("ticket", "ticket-figure-7"),
 }
 SIDES = {"prover": 385, "meter": 395}

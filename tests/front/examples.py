@@ -26,6 +26,14 @@ SHOWN = {
     ),
     "flow-computer.toml": ("Runs from a flow computer", "Meter factor              0.9963"),
     "water-draw.toml": ("21,179.67", "21,182.13", "21,182.15", "21,181.32 in³", "2.1832 bbl"),
+    "bidirectional-draw.toml": (
+        "1 * |    1 21,179.67 |    2 21,207.28 |  42,386.95",
+        "2 * |    3 21,182.13 |    4 21,208.63 |  42,390.76",
+        "3 * |    5 21,182.15 |    6 21,207.70 |  42,389.85",
+        "first pass used 1:",
+        "42,389.19 in³ of a round trip",
+        "4.3691 bbl",
+    ),
     "ticket.toml": ("500.00 bbl", "0.9913", "495.65 bbl", "493.17 bbl"),
     "ticket-figure-7.toml": ("0.9898", "52,587.08 bbl", "52,508.20 bbl"),
     "ticket-propane.toml": ("115 psi", "1.0080", "0.9420", "9,420.00 bbl"),
@@ -45,6 +53,7 @@ SHOWN = {
 # Which command an example is for; prove where nothing is said.
 COMMANDS = {
     "water-draw.toml": "draw",
+    "bidirectional-draw.toml": "draw",
     "ticket.toml": "ticket",
     "ticket-figure-7.toml": "ticket",
     "ticket-propane.toml": "ticket",
@@ -54,10 +63,14 @@ COMMANDS = {
     "book.txt": "book",
 }
 
+# Refusals are named by their command, or by the profile of a draw.
+NAMED = {"bidirectional": "draw"}
+
 # 01's table: the numbers that each command can give. prove lends 32 bytes itself, so 14 cannot arise there.
 NUMBERS = {
     "prove": {1, 2, 3, 4, 5, 7, 8, 9, 22},
     "draw": {1, 2, 3, 5, 6, 9},
+    "bidirectional": {1, 2, 3, 5, 6, 9},
     "ticket": {10, 11},
     "live": {12, 13},
     "panel": {13},
@@ -92,21 +105,27 @@ def accepted(tally):
             tally.holds(out, part, name)
 
 
+def named(path):
+    """What a refusal's name says: its command, its number."""
+    first, number = path.name.split("-")[:2]
+    return NAMED.get(first, first), int(number)
+
+
 def refused(tally):
     given = {}
     for path in sorted((FOLDER / "refusals").iterdir()):
-        command, number = path.name.split("-")[:2]
-        given.setdefault(command, set()).add(int(number))
+        command, number = named(path)
+        given.setdefault(path.name.split("-")[0], set()).add(number)
         words = RECORD_WORDS.get(path.name) or path.read_text().splitlines()[0].removeprefix("# refused: ")
         status, out, err = called(command, path)
         tally.same(status, 1, f"{path.name}: status")
-        head = f"refused {int(number)}: {WORDS[int(number)]}"
+        head = f"refused {number}: {WORDS[number]}"
         if command == "book":
             tally.holds(out, f"{head}; {words}\n", path.name)
         else:
             tally.same(err, f"{path}: {head}\n   {words}\n", path.name)
             # Only where every run or pass has its figures is there a page to show.
-            tally.same(bool(out), int(number) == 9, f"{path.name}: a page")
+            tally.same(bool(out), number == 9, f"{path.name}: a page")
     tally.same(given, NUMBERS, "refusals that have an example")
 
 

@@ -23,12 +23,15 @@ WORDS = {
         *("--record OUT", "--worksheet OUT", "--plot OUT", "--html OUT"),
         *("[prover]", "[meter]", "[[run]]", "[every_run]", *fields.METALS),
     ),
-    "draw": ("--worksheet OUT", "--html OUT", "[prover]", "[[fill]]", "[every_fill]", *fields.METALS),
+    "draw": (
+        *("--worksheet OUT", "--html OUT", "[prover]", "[[fill]]", "[every_fill]", *fields.METALS),
+        *("\n  profile ", "unidirectional, 3 to 20 passes, where it is left out", "bidirectional, 6 to 20 passes"),
+    ),
     "ticket": ("--worksheet OUT", "--html OUT", "[ticket]"),
     "live": ("--html OUT", "[live]", "nan or inf", "bits", "panel"),
     "panel": ("--html OUT", "[panel]", "nearest", "exactly", "bits"),
     "read": ("RECORD", "--hex BYTES"),
-    "new": ("KIND", "prove, draw, ticket, live, panel", "OUT.toml", "--force"),
+    "new": ("KIND", "prove, draw, bidirectional, ticket, live, panel", "OUT.toml", "--force"),
     "lines": ("docs/LINES.md",),
     "book": (
         *("--keep FILE", "request SHIPPER NUMBER", "withdraw SHIPPER NUMBER", "take", "empty"),

@@ -7,9 +7,9 @@ from dataclasses import asdict, replace
 from cases import draw_halves as half_cases
 from cases import proving_halves
 from cases import tickets as ticket_cases
-from cases.draw_days import valid_draw
+from cases.draw_days import steered, valid_draw, valid_fill, volume_of
 from cases.plain import fitted_job
-from cases.proving_days import valid_job
+from cases.proving_days import valid_job, valid_prover
 from cases.shapes import Draw, Fill, Job, Prover, Run
 from front import fields
 from front.records import LENGTH, RUN_LAYOUT
@@ -55,6 +55,11 @@ def draw_text(draw):
     return text
 
 
+def paired_text(draw):
+    """The same of a bidirectional prover."""
+    return draw_text(draw).replace("[prover]\n", '[prover]\nprofile = "bidirectional"\n', 1)
+
+
 def ticket_text(ticket):
     own = asdict(ticket)
     names = {"sediment_and_water": "sediment"}
@@ -91,6 +96,32 @@ def draws(count, seed):
     return [valid_draw(rng) for _ in range(count)]
 
 
+def paired_draws(count, seed):
+    """Draws of a bidirectional prover: the passes of a pair at pressures of their own, round trips that agree or nearly
+    do, whether or not their passes do."""
+    rng = random.Random(seed)
+    return [paired_draw(rng) for _ in range(count)]
+
+
+def paired_draw(rng):
+    prover, trips = valid_prover(rng), rng.choice((3, 3, 4, 5, rng.randint(3, 10)))
+    measures = [replace(valid_fill(rng), scale=rng.randint(-500, 500)) for _ in range(rng.randint(1, 30 // trips))]
+    pressures, smallest, fills = (rng.randint(0, 200), rng.randint(0, 200)), None, []
+
+    def of_pass(number, pressure):
+        return [replace(each, pass_number=number, pressure=pressure) for each in measures]
+
+    for trip in range(trips):
+        out, back = (of_pass(2 * trip + at, pressure + rng.randint(0, 3)) for at, pressure in enumerate(pressures, 1))
+        out[-1] = replace(out[-1], scale=out[-1].scale + rng.randint(-3000, 3000))
+        if smallest is None:
+            smallest = volume_of(out, prover) + volume_of(back, prover)
+        # Within the limit, 2 in 10,000, or beyond it at times.
+        wanted = smallest + rng.randint(0, smallest * rng.choice((2, 2, 9)) // 10_000)
+        fills += out + steered(back, wanted - volume_of(out, prover), prover)
+    return Draw(tuple(fills), prover)
+
+
 def draw_halves(count, seed):
     """Draws of three like passes with an exact half in what is drawn, in CCTS or in a pass."""
     rng = random.Random(seed)
@@ -103,11 +134,11 @@ def draw_halves(count, seed):
     return made
 
 
-def widest_draws():
-    """Draws at the ends of the ranges: sixty of the largest fills in the thinnest pipe, three of the smallest."""
+def widest_draws(passes=3):
+    """Draws at the ends of the ranges: sixty of the largest fills in the thinnest pipe, and a smallest one a pass."""
     thin = Prover(4, 400, 60_000, 100, 10_000_000)
-    large = [Fill(100_000_000, 10_000, 350, 1050, 400, 1_020_000, 1 + at // 20, 1500) for at in range(60)]
-    small = [Fill(20_000, -10_000, 1050, 321, 400, 980_000, number, 1500) for number in (1, 2, 3)]
+    large = [Fill(100_000_000, 10_000, 350, 1050, 400, 1_020_000, 1 + at * passes // 60, 1500) for at in range(60)]
+    small = [Fill(20_000, -10_000, 1050, 321, 400, 980_000, 1 + at, 1500) for at in range(passes)]
     return [Draw(tuple(fills), thin) for fills in (large, small)]
 
 

@@ -8,7 +8,7 @@ import subprocess
 import tempfile
 from pathlib import Path
 
-from examples import COMMANDS, WORDS
+from examples import COMMANDS, WORDS, named
 from harness import LAUNCHER, ROOT, Tally, called, run
 
 from front.units import shown
@@ -78,12 +78,12 @@ def accepted(tally, path, command):
 
 
 def refused(tally, path):
-    command, number = path.name.split("-")[:2]
+    command, number = named(path)
     status, line, err = called(command, path, "--json")
     told = parsed(line)
     name, refusal = path.name, told["refusal"]
     tally.same((status, told["outcome"]), (1, "refused"), name)
-    tally.same((refusal["number"], refusal["words"]), (int(number), WORDS[int(number)]), name)
+    tally.same((refusal["number"], refusal["words"]), (number, WORDS[number]), name)
     tally.same("result" in told, False, f"{name}: a result")
     documented(tally, told, name)
     whole(tally, told, name)
@@ -96,7 +96,7 @@ def refused(tally, path):
             tally.holds(detail["words"], shown(value["count"], value["decimals"]), f"{name}: value")
             tally.check(not ends["low"] <= value["count"] <= ends["high"], f"{name}: {detail} is within its range")
             tally.holds(detail["words"], shown(ends["low"], ends["decimals"]), f"{name}: range")
-    about_field = int(number) not in (9,)
+    about_field = number not in (9,)
     tally.same(all("field" in detail for detail in refusal["details"]), about_field, f"{name}: fields")
 
 

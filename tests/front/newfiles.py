@@ -5,6 +5,7 @@ import tempfile
 from hashlib import sha256
 from pathlib import Path
 
+from examples import NAMED
 from harness import LAUNCHER, ROOT, Tally, called, run
 from helping import KEYS
 
@@ -13,17 +14,22 @@ from front import build, version
 
 def job_files(tally, folder):
     """A new job file of each kind runs as it is, and has every key with its range."""
-    for kind in ("prove", "draw", "ticket", "live", "panel"):
+    for kind in ("prove", "draw", "bidirectional", "ticket", "live", "panel"):
+        command = NAMED.get(kind, kind)
         path = Path(folder) / f"{kind}.toml"
         status, text, err = called("new", kind)
         tally.same((status, err), (0, ""), f"new {kind}")
         path.write_text(text)
-        status, out, err = called(kind, path)
+        status, out, err = called(command, path)
         tally.same((status, err), (0, ""), f"the new file of {kind} runs")
-        for key, field in KEYS[kind].items():
+        for key, field in KEYS[command].items():
             lines = [line for line in text.splitlines() if line.removeprefix("# ").startswith(f"{key} = ")]
             tally.check(any(f"# {field.label}, {field.range}" in line for line in lines), f"new {kind}: {key}")
         tally.check(max(map(len, text.splitlines())) <= 120, f"new {kind}: a line is too long")
+        if command == "draw":
+            profile = "bidirectional" if kind in NAMED else "unidirectional"
+            tally.holds(text, f'\nprofile = "{profile}" # ', f"new {kind}")
+            tally.holds(out, f" {profile} pipe prover, ", f"the new file of {kind}")
         status, out, err = called("new", kind, path)
         told = f"{path}: OUT.toml: is there already: --force writes over it\n"
         tally.same((status, out, err, path.read_text()), (2, "", told, text), f"new {kind} onto a file")

@@ -7,9 +7,9 @@ from pathlib import Path
 from harness import ROOT, Tally, called, run
 
 EXAMPLES = ROOT / "examples"
-JOBS = ("figure-5.toml", "water-draw.toml", "ticket.toml", "live.toml", "panel.toml")
+JOBS = ("figure-5.toml", "water-draw.toml", "bidirectional-draw.toml", "ticket.toml", "live.toml", "panel.toml")
 JOBS += ("refusals/prove-09-runs-drift.toml",)
-NAMES = ("prove-05-too-hot", "figure-5", "water-draw", "ticket", "live", "panel", "prove-09-runs-drift")
+NAMES = ("prove-05-too-hot", *(Path(name).stem for name in JOBS))
 WITH_PLOT = ("figure-5", "prove-09-runs-drift", "inner/figure-5")
 
 
@@ -54,7 +54,7 @@ def test():
         (folder / "out.csv").unlink()
         (pages / "ticket.html").write_text("of an earlier month")
         status, out, err = run(*words, "--reports", pages)
-        told = f"{pages / 'figure-5.html'}: --reports: is there already: --force writes over it\n"
+        told = f"{pages / 'bidirectional-draw.html'}: --reports: is there already: --force writes over it\n"
         tally.same((status, err), (2, told), "without --force")
         tally.same((pages / "ticket.html").read_text(), "of an earlier month", "without --force")
         tally.check(not (folder / "out.csv").exists(), "without --force results are written")

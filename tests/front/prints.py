@@ -16,7 +16,7 @@ PAPERS = {"Letter": "(letter)", "A4": "(A4)"}
 # Examples that are called as their kind is.
 SHORT = ("ticket", "live", "panel")
 # So many jobs are printed on both.
-BOTH = 6
+BOTH = 7
 # Letters of 5 points, in millimetres, also where runs, fills and texts are at their most.
 LEAST = 1.76
 FIGURE = re.compile(r"\d[\d.,]*\d|\d")
@@ -45,9 +45,9 @@ def figures_of(text):
 
 def jobs(folder):
     """Jobs of each kind: plain, refused, the widest, the longest."""
-    for name in ("figure-5", "figure-6", "water-draw", *SHORT):
+    for name in ("figure-5", "figure-6", "water-draw", "bidirectional-draw", *SHORT):
         yield EXAMPLES / f"{name}.toml"
-    for name in ("prove-09-runs-drift", "draw-09-passes-drift"):
+    for name in ("prove-09-runs-drift", "draw-09-passes-drift", "bidirectional-09-trips-drift"):
         yield EXAMPLES / "refusals" / f"{name}.toml"
     by_chance = [jobtexts.proving_text(max(jobtexts.days(60, 21), key=lambda job: len(job.runs)))]
     by_chance.append(jobtexts.draw_text(max(jobtexts.draws(60, 22), key=lambda draw: len(draw.fills))))

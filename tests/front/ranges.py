@@ -14,6 +14,7 @@ from front.units import shown
 ASKED = {"prove": figures.prove, "draw": figures.draw, "ticket": figures.ticket, "panel": figures.panel}
 # The kind, its example, the table that holds a field, the fields, the number, the record and how it is called.
 PROVER = fields.named(fields.COEFFICIENT) | fields.PIPE
+OF_A_FILL = {key: field for key, field in fields.FILL.items() if key != "pass"}
 PLACES = (
     ("prove", "second-five.toml", "", fields.named(fields.REQUEST), 22, 0),
     ("prove", "second-five.toml", "prover", PROVER | fields.named(fields.BASE_VOLUME), 3, 0),
@@ -21,7 +22,9 @@ PLACES = (
     ("prove", "second-five.toml", "", fields.named(fields.LIMIT), 4, 0),
     ("prove", "second-five.toml", "run", fields.RUN, 5, 3),
     ("draw", "water-draw.toml", "prover", PROVER, 3, 0),
-    ("draw", "water-draw.toml", "fill", {key: field for key, field in fields.FILL.items() if key != "pass"}, 5, 3),
+    ("draw", "water-draw.toml", "fill", OF_A_FILL, 5, 3),
+    ("draw", "bidirectional-draw.toml", "prover", PROVER, 3, 0),
+    ("draw", "bidirectional-draw.toml", "fill", OF_A_FILL, 5, 3),
     ("ticket", "ticket.toml", "ticket", fields.TICKET, 10, 0),
     ("panel", "panel.toml", "panel", fields.PANEL, 13, 0),
 )
@@ -41,8 +44,8 @@ def example(name):
     """An example's tables, with every value as it is written."""
     values = tomllib.loads((ROOT / "examples" / name).read_text(), parse_float=str)
     values.pop("heading", None)
-    if "metal" in values.get("prover", {}):
-        values["prover"]["metal"] = f'"{values["prover"]["metal"]}"'
+    for key in {"metal", "profile"} & set(values.get("prover", {})):
+        values["prover"][key] = f'"{values["prover"][key]}"'
     return values
 
 

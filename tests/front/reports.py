@@ -116,7 +116,8 @@ def draw(tally, name, job, program):
     fits(tally, name, lines)
     head(tally, name, worked, lines)
     if answer:
-        tally.same(value(lines, "Base volume"), f"{shown(answer[0], 2)} in³, the mean of the three", name)
+        of_trip = " of a round trip" if paired(job) else ""
+        tally.same(value(lines, "Base volume"), f"{shown(answer[0], 2)} in³{of_trip}, the mean of the three", name)
         tally.same(value(lines, "In barrels"), f"{shown(answer[1], 4)} bbl", name)
     tables = tables_after(lines, "B. FILLS")
     if tally.same(len(tables), 2, f"{name}: tables"):
@@ -129,16 +130,43 @@ def draw(tally, name, job, program):
         own = [fill["drawn"] for fill, of in zip(fills, job.fills) if of.counts["pass"] == number]
         used = answer and answer[2] <= number < answer[2] + 3
         marked = [str(number), *["*"] * bool(used)]
+        if paired(job):
+            marked = [str(number), "out" if number % 2 else "back"]
         tally.same(cells[: len(marked)], marked, f"{name}, pass {number}")
         tally.same(cells[len(marked) + 1], shown(sum(own), 2), f"{name}, sum of pass {number}")
         tally.same(cells[-1], shown(passes[number - 1]["volume"], 2), f"{name}, volume of pass {number}")
+    tally.same("D. ROUND TRIPS" in lines, paired(job), f"{name}: round trips")
+    if paired(job):
+        tally.check("foot" not in table, f"{name}: a mean of passes")
+        table = round_trips(tally, name, lines, [own["volume"] for own in passes], answer)
     if answer:
         tally.same(table["foot"], ["avg", "*", shown(answer[0], 2)], f"{name}: mean")
+
+
+def paired(job):
+    return job.profile.name == "bidirectional"
+
+
+def round_trips(tally, name, lines, volumes, answer):
+    """The table of round trips: each the sum of two passes, those used marked from the first pass used on."""
+    [table] = tables_after(lines, "D. ROUND TRIPS")
+    tally.same(len(table["rows"]), len(volumes) // 2, f"{name}: round trips")
+    for trip, cells in enumerate(table["rows"], 1):
+        out, back = 2 * trip - 1, 2 * trip
+        used = answer and answer[2] <= out < answer[2] + 6
+        sides = [cell for number in (out, back) for cell in (str(number), shown(volumes[number - 1], 2))]
+        total = shown(volumes[out - 1] + volumes[back - 1], 2)
+        tally.same(cells, [str(trip), *["*"] * bool(used), *sides, total], f"{name}, round trip {trip}")
+    if answer:
+        first = f"{answer[2] // 2 + 1} to {answer[2] // 2 + 3} of {len(volumes) // 2}, first pass used {answer[2]}: "
+        tally.check(value(lines, "Accepted round trips").startswith(first), f"{name}: accepted round trips")
+    return table
 
 
 def widest():
     """Jobs at the ends of the ranges: their figures are the longest that there are."""
     yield from map(jobtexts.draw_text, jobtexts.widest_draws())
+    yield from map(jobtexts.paired_text, jobtexts.widest_draws(20))
     prover = 'metal = "mild carbon"\ninside_diameter = 60.000\nwall_thickness = 0.100\nmodulus = 10000000\n'
     most, least = ("10000.0000", "1.5000"), ("9500.0000", "0.5000")
     for (base, ctl), equilibrium in ((most, 0), (least, 0), (least, 1000)):
@@ -160,11 +188,15 @@ def test():
         for number, given in enumerate(jobtexts.days(JOBS, 3)):
             path.write_text(jobtexts.proving_text(given))
             proving(tally, f"job {number}", jobs.read(str(path), "prove"), program)
-        for number, given in enumerate(jobtexts.draws(JOBS, 4)):
-            path.write_text(jobtexts.draw_text(given))
-            job = jobs.read(str(path), "draw")
-            tally.same(job.records, given.records, f"draw {number}: records")
-            draw(tally, f"draw {number}", job, program)
+        for text, listed in (
+            (jobtexts.draw_text, jobtexts.draws(JOBS, 4)),
+            (jobtexts.paired_text, jobtexts.paired_draws(JOBS, 5)),
+        ):
+            for number, given in enumerate(listed):
+                path.write_text(text(given))
+                job = jobs.read(str(path), "draw")
+                tally.same(job.records, given.records, f"draw {number}: records")
+                draw(tally, f"{job.profile.name} draw {number}", job, program)
         for number, given in enumerate(widest()):
             path.write_text(given)
             job = jobs.read(str(path))

@@ -11,6 +11,7 @@ from hashlib import sha256
 from pathlib import Path
 
 import jobtexts
+from examples import named
 from harness import LAUNCHER, ROOT, Tally, at_terminal, run
 
 from front import version
@@ -49,7 +50,8 @@ def mixed(tally, folder):
         parts = row["file"].split("-")
         if len(parts) > 2 and parts[1].isdigit() and (EXAMPLES / "refusals" / row["file"]).exists():
             found = (row["job"], row["outcome"], int(row["refusal"]))
-            tally.same(found, (parts[0], "refused", int(parts[1])), row["file"])
+            command, number = named(path)
+            tally.same(found, (command, "refused", number), row["file"])
             tally.holds(out, f"{folder / row['file']}: {row['words']}\n", "a line a refusal")
         runs = path.with_suffix(".csv")
         octets = path.read_bytes() + (runs.read_bytes() if runs.exists() else b"")
@@ -71,6 +73,8 @@ def figures_of(tally, rows):
          "spread (%)": "0.050", "report record": record, "gross (bbl)": ""}),
         ("water-draw.toml", {"base volume (bbl)": "2.1832", "base volume (in³)": "21181.32", "first used": "1",
          "out of": "3", "limit (%)": "0.02", "spread (%)": "0.012", "meter factor": ""}),
+        ("bidirectional-draw.toml", {"job": "draw", "base volume (bbl)": "4.3691", "base volume (in³)": "42389.19",
+         "first used": "1", "out of": "6", "limit (%)": "0.02", "spread (%)": "0.009", "meter factor": ""}),
         ("ticket.toml", {"gross (bbl)": "495.65", "net (bbl)": "493.17", "meter factor": "1.0002", "request": ""}),
         ("live.toml", {"temperature (°F)": "73.3", "pressure (psi)": "40"}),
         ("panel.toml", {"job": "panel", "outcome": "accepted", "temperature (°F)": "73.3", "pressure (psi)": "40"}),
@@ -82,6 +86,7 @@ def figures_of(tally, rows):
         ("prove-09-runs-drift.toml", {"outcome": "refused", "meter factor": "", "base volume (bbl)": "20.0000",
          "spread (%)": "0.090"}),
         ("draw-09-passes-drift.toml", {"outcome": "refused", "base volume (bbl)": "", "spread (%)": "0.052"}),
+        ("bidirectional-09-trips-drift.toml", {"outcome": "refused", "first used": "", "spread (%)": "0.052"}),
         ("prove-05-too-hot.toml", {"outcome": "refused", "spread (%)": ""}),
     ):  # fmt: skip
         tally.same({column: rows[name][column] for column in expected}, expected, name)

@@ -30,7 +30,8 @@ def told(tally, name, worked):
     if worked.job.kind == "prove":
         values, limit, size, noun = [own["factor"] for own in worked.runs], worked.job.limit, 5, "five: runs"
     else:
-        values, limit, size, noun = [own["volume"] for own in worked.passes], fields.DRAW_LIMIT, 3, "three: passes"
+        noun = f"three: {'round trips' if worked.trips else 'passes'}"
+        values, limit, size = [own["volume"] for own in worked.trips or worked.passes], fields.DRAW_LIMIT, 3
     groups = groups_of(values, size)
     meets = [(max(own) - min(own)) * 10_000 <= limit * min(own) for own in groups]
     tally.same(not worked.refusal, any(meets), f"{name}: accepted")
@@ -49,12 +50,13 @@ def told(tally, name, worked):
 
 def test():
     tally = Tally("spreads")
-    names = ("prove-09-runs-drift", "draw-09-passes-drift")
+    names = ("prove-09-runs-drift", "draw-09-passes-drift", "bidirectional-09-trips-drift")
     refused = [ROOT / "examples" / "refusals" / f"{name}.toml" for name in names]
     with tempfile.TemporaryDirectory() as folder, Program() as program:
         texts = [path.read_text() for path in refused]
         texts += [*map(jobtexts.proving_text, jobtexts.days(JOBS, 9))]
         texts += [*map(jobtexts.draw_text, jobtexts.draws(JOBS, 10))]
+        texts += [*map(jobtexts.paired_text, jobtexts.paired_draws(JOBS, 11))]
         for number, text in enumerate(texts):
             path = Path(folder) / "job.toml"
             path.write_text(text)

@@ -13,9 +13,12 @@ from harness import ROOT, Tally, called
 EXAMPLES = ROOT / "examples"
 JOBS = {
     "prove": ("second-five.toml", "figure-6.toml", "refusals/prove-09-runs-drift.toml"),
-    "draw": ("water-draw.toml", "refusals/draw-09-passes-drift.toml"),
+    "draw": (
+        "water-draw.toml", "refusals/draw-09-passes-drift.toml",
+        "bidirectional-draw.toml", "refusals/bidirectional-09-trips-drift.toml",
+    ),
     "ticket": ("ticket.toml", "ticket-propane.toml"),
-}
+}  # fmt: skip
 OTHER = EXAMPLES / "figure-5.toml"
 DAMAGED = 12
 SAME = "is that job's, and all of it is what Endakuro 1.0 makes of it"

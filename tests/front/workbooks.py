@@ -19,7 +19,7 @@ from front.program import Program
 from front.sheet import FIRST_COLUMN
 from front.units import shown
 
-DAYS, DRAWS, TICKETS = 30, 6, 8
+DAYS, DRAWS, PAIRED, TICKETS = 30, 6, 6, 8
 EXAMPLES = ROOT / "examples"
 PLACES = {"0.1": 1, "0.01": 2, "0.001": 3, "0.0001": 4, "0.000001": 6, "0.0000001": 7, "0.00000001": 8, "1": 0}
 
@@ -27,9 +27,11 @@ PLACES = {"0.1": 1, "0.01": 2, "0.001": 3, "0.0001": 4, "0.000001": 6, "0.000000
 def texts():
     yield from map(jobtexts.proving_text, jobtexts.days(DAYS, 31))
     yield from map(jobtexts.draw_text, jobtexts.draws(DRAWS, 32))
+    yield from map(jobtexts.paired_text, jobtexts.paired_draws(PAIRED, 34))
     yield from map(jobtexts.ticket_text, jobtexts.tickets(TICKETS, 33))
     yield from widest()
-    yield (EXAMPLES / "refusals" / "prove-09-runs-drift.toml").read_text()
+    for name in ("prove-09-runs-drift", "bidirectional-09-trips-drift"):
+        yield (EXAMPLES / "refusals" / f"{name}.toml").read_text()
 
 
 def made(folder, program):
@@ -99,7 +101,7 @@ def test():
             tally.check(["Digits agree", "", "yes"] in figures, f"{path.name}: digits agree")
         looks(tally, paths[0])
         without_library(tally, Path(folder))
-        for name in ("prove figure-5", "draw water-draw", "ticket ticket"):
+        for name in ("prove figure-5", "draw water-draw", "draw bidirectional-draw", "ticket ticket"):
             kind, example = name.split()
             out = Path(folder) / f"{example}.xlsx"
             tally.same(called(kind, EXAMPLES / f"{example}.toml", "--worksheet", out)[0], 0, name)

@@ -14,7 +14,7 @@ from front import worksheet
 from front.program import Program
 from front.sheet import FIRST_COLUMN
 
-DAYS, HALVES, DRAWS, TICKETS = 150, 110, 20, 48
+DAYS, HALVES, DRAWS, PAIRED, TICKETS = 150, 110, 20, 20, 48
 # So many of them at least are of liquids that boil.
 BOILING = {"prover_equilibrium_pressure": 60, "meter_equilibrium_pressure": 60, "equilibrium_pressure": 8}
 
@@ -24,7 +24,7 @@ def proving(worked, program):
 
 
 def draw(worked, program):
-    return draw_worksheet.build(worked), cells.of_draw(worked.job, worked.fills, worked.passes, worked.answer, program)
+    return draw_worksheet.build(worked), cells.of_draw(worked, program)
 
 
 def ticket(worked, program):
@@ -40,6 +40,7 @@ def texts():
     draws = jobtexts.draws(DRAWS, 3) + jobtexts.draw_halves(DRAWS, 4) + jobtexts.widest_draws()
     yield from map(jobtexts.proving_text, provings)
     yield from map(jobtexts.draw_text, draws)
+    yield from map(jobtexts.paired_text, jobtexts.paired_draws(PAIRED, 6) + jobtexts.widest_draws(6))
     yield from map(jobtexts.ticket_text, jobtexts.tickets(TICKETS, 5))
 
 
@@ -77,7 +78,7 @@ def test():
             tally.same(sheet.found(rows, key, at), str(told[key, at]), f"{name}: {key}, column {at + 1}")
     counts = {kind: sum(name.startswith(kind) for name, *_ in sheets) for kind in MAKERS}
     tally.check(counts["prove"] >= 200, f"only {counts['prove']} proving jobs have a worksheet")
-    for key, least in BOILING.items():
+    for key, least in (BOILING | {"first_trip": PAIRED}).items():
         having = sum(key in sheet.places for _, _, sheet, _ in sheets)
         tally.check(having >= least, f"only {having} worksheets have a {key}")
     told = ", ".join(f"{count} {kind}" for kind, count in counts.items())
