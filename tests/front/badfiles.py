@@ -19,6 +19,13 @@ def changed(old, new, text=GOOD):
     return text.replace(old, new, 1)
 
 
+PROFILE = 'profile = "bidirectional"\n'
+
+
+def profiled(value):
+    return changed("[prover]\n", f"[prover]\nprofile = {value}\n", DRAW)
+
+
 # A name, the command, the file's content, what must be said behind the file's name and the line; how many faults, or 1.
 CASES = (
     ("not TOML", "prove", changed("request = 5", "request = = 5"), "request: is not TOML: Invalid value"),
@@ -112,6 +119,26 @@ CASES = (
     ("pass beyond a byte", "draw", changed("pass = 1", "pass = 256", DRAW),
      "fill 1, pass: 256 does not fit its place: expected 0 to 255"),
     ("a fill's key slipped", "draw", changed("ctdw", "ctwd", DRAW), "fill 1, ctwd: unknown key: did you mean ctdw?"),
+    ("profile misspelt", "draw", profiled('"bi-directional"'),
+     "[prover], profile: bi-directional is not known: did you mean bidirectional? Expected one of unidirectional,"),
+    ("profile with a capital", "draw", profiled('"Unidirectional"'),
+     "[prover], profile: Unidirectional is not known: did you mean unidirectional? Expected one of unidirectional,"),
+    ("profile unheard of", "draw", profiled('"two way"'),
+     "[prover], profile: two way is not known: expected one of unidirectional, bidirectional"),
+    ("profile no text", "draw", profiled("2"), "[prover], profile: expected text in quotes, found a whole number"),
+    ("profile without a value", "draw", profiled(""), "[prover], profile: has no value"),
+    ("profile's key slipped", "draw", profiled('"bidirectional"').replace("profile", "profil"),
+     "[prover], profil: unknown key: did you mean profile?"),
+    ("profile above the tables", "draw", f"{PROFILE}{DRAW}",
+     "profile: stands at the top of the file and belongs in [prover]"),
+    ("profile in a fill", "draw", changed("pass = 1\n", f"pass = 1\n{PROFILE}", DRAW),
+     "fill 1, profile: stands in fill 1 and belongs in [prover]"),
+    ("profile in the heading", "draw", changed("[heading]\n", '[heading]\nprofile = "Bi-directional prover"\n', DRAW),
+     "[heading], profile: stands in [heading] and belongs in [prover]"),
+    ("profile of a proving", "prove", changed("[prover]\n", f"[prover]\n{PROFILE}"),
+     "[prover], profile: stands in [prover] and belongs in [prover] of a water draw"),
+    ("profile in a proving's runs", "prove", changed("[every_run]\n", f"[every_run]\n{PROFILE}"),
+     "[every_run], profile: stands in [every_run] and belongs in [prover] of a water draw"),
     ("ticket without a key", "ticket", "[ticket]\nopening = 1\n",
      "[ticket], closing: missing: expected the closing reading, 0.00 to 999,999.99 bbl", 6),
     ("no single", "live", LIVE.format("73.3"),
