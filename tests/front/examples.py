@@ -27,6 +27,11 @@ SHOWN = {
     "flow-computer.toml": ("Runs from a flow computer", "Meter factor              0.9963"),
     "water-draw.toml": ("21,179.67", "21,182.13", "21,182.15", "21,181.32 in³", "2.1832 bbl"),
     "bidirectional-draw.toml": (
+        " bidirectional pipe prover, API MPMS 12.2 Part 4\n",
+        "Profile                   bidirectional: odd passes out, even back\n",
+        "Repeatability limit       0.02 % of the smallest of three consecutive round trips\n",
+        "1       out  40    21,183.21 1.000039 1.000128 21,179.67\n",
+        "2      back  40    21,210.82 1.000039 1.000128 21,207.28\n",
         "1 * |    1 21,179.67 |    2 21,207.28 |  42,386.95",
         "2 * |    3 21,182.13 |    4 21,208.63 |  42,390.76",
         "3 * |    5 21,182.15 |    6 21,207.70 |  42,389.85",

@@ -118,6 +118,15 @@ def counts(tally, path):
         tally.holds(called("draw", path)[2], f"   fills: {count}, range 3 to 60\n", f"{count} fills")
 
 
+def refused_page(tally, path):
+    """A draw that is refused before it has figures still has its page, with its profile and no round trips."""
+    out = path.with_suffix(".html")
+    called("draw", EXAMPLES / "refusals" / "bidirectional-01-odd-passes.toml", "--html", out)
+    for words in ("NOT ACCEPTED: refused 1: ", f"7 passes, an odd number: {TAKES}<", ">bidirectional pipe prover, "):
+        tally.holds(out.read_text(), words, "a refused draw's page")
+    tally.check("ROUND TRIPS" not in out.read_text(), "a refused draw's page has round trips")
+
+
 def order(tally, path):
     """The count of passes is judged after every record and before any group."""
     unnamed = 'record = "50a01100 0000 bc02 c102 0901 7c420f00 07 07 3200 000000000000000000000000"\n'
@@ -188,14 +197,15 @@ def pressures(tally, path):
 
 def same_said(tally, path):
     """A file that says unidirectional is answered as one that does not say it; only its SHA-256 is another."""
-    text = SINGLE.read_text()
+    text, forms = SINGLE.read_text(), []
     assert "[prover]\n" in text
-    path.write_text(text.replace("[prover]\n", '[prover]\nprofile = "unidirectional"\n'))
-    digests = [jobs.read(str(own)).digest for own in (SINGLE, path)]
-    for words in ((), ("--json",), ("--html", "-"), ("--worksheet", "-")):
-        unsaid, said = (called("draw", own, *words)[1] for own in (SINGLE, path))
-        found = said.replace(digests[1], digests[0]).replace(str(path), str(SINGLE))
-        tally.same(found, unsaid, f"unidirectional, said: {words}")
+    for own in (text, text.replace("[prover]\n", '[prover]\nprofile = "unidirectional"\n')):
+        path.write_text(own)
+        digest = jobs.read(str(path)).digest
+        told = [called("draw", path, *words)[1] for words in ((), ("--json",), ("--html", "-"), ("--worksheet", "-"))]
+        forms.append([form.replace(digest, "") for form in told])
+    for unsaid, said in zip(*forms):
+        tally.check(unsaid and said == unsaid, f"unidirectional, said: {said[:40]!r}")
 
 
 def free_heading(tally, path):
@@ -288,7 +298,7 @@ def test():
     tally = Tally("round trips")
     asked(tally)
     as_told(tally)
-    for part in (counts, order, pressures, same_said, free_heading, from_csv, earlier_json):
+    for part in (counts, refused_page, order, pressures, same_said, free_heading, from_csv, earlier_json):
         with tempfile.TemporaryDirectory() as folder:
             part(tally, Path(folder) / "job.toml")
     for part in (first_three, both_kinds):
