@@ -21,7 +21,9 @@ from front.units import shown
 
 DAYS, DRAWS, PAIRED, TICKETS = 30, 6, 6, 8
 EXAMPLES = ROOT / "examples"
-PLACES = {"0.1": 1, "0.01": 2, "0.001": 3, "0.0001": 4, "0.000001": 6, "0.0000001": 7, "0.00000001": 8, "1": 0}
+PLACES = {"": 0, "1": 0, "0.1": 1, "0.01": 2, "0.001": 3, "0.0001": 4, "0.000001": 6, "0.0000001": 7, "0.00000001": 8}
+# Rows without a unit.
+PLAIN = {"out_pass", "back_pass", "any", "first_trip", "first", "told_first", "agree"}
 
 
 def texts():
@@ -48,14 +50,15 @@ def made(folder, program):
 
 
 def as_read(sheet, told):
-    """What people must see: each row that has a unit, its figures with as many decimals as the unit has."""
+    """What people must see: each row that has a unit, its figures with as many decimals as the unit has, and those
+    without one that are no part of a product or of a test."""
     for key, row in sheet.places.items():
         label, unit, _, *cells = sheet.rows[row]
-        if key.startswith("read_") or not unit:
+        if key.startswith("read_") or not unit and key not in PLAIN:
             continue
         number, _, name = unit.partition(" ")
         counts = [told[key, at] if str(cell).startswith("=") else cell for at, cell in enumerate(cells)]
-        yield [label, name, *(each if each == "none" else shown(each, PLACES[number]) for each in counts)]
+        yield [label, name, *(each if isinstance(each, str) else shown(each, PLACES[number]) for each in counts)]
 
 
 def without_library(tally, folder):
