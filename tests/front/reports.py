@@ -166,7 +166,7 @@ def round_trips(tally, name, lines, volumes, answer):
 def widest():
     """Jobs at the ends of the ranges: their figures are the longest that there are."""
     yield from map(jobtexts.draw_text, jobtexts.widest_draws())
-    yield from map(jobtexts.paired_text, jobtexts.widest_draws(20))
+    yield jobtexts.paired_text(jobtexts.widest_draws(20)[0])
     prover = 'metal = "mild carbon"\ninside_diameter = 60.000\nwall_thickness = 0.100\nmodulus = 10000000\n'
     most, least = ("10000.0000", "1.5000"), ("9500.0000", "0.5000")
     for (base, ctl), equilibrium in ((most, 0), (least, 0), (least, 1000)):
