@@ -87,11 +87,11 @@ def foot_of(worked, columns):
 
 def passes_table(worked):
     """The passes: each with its mark where they are judged, or with the way that it goes where they come in pairs."""
-    ways = cycle(WAYS) if worked.trips else [mark(each["pass"], worked) for each in worked.passes]
+    beside = cycle(WAYS) if worked.trips else [mark(each["pass"], worked) for each in worked.passes]
     columns = [("Pass", ""), ("Direction" * bool(worked.trips), ""), *(column[:2] for column in PASS_COLUMNS)]
     rows = [
-        [str(each["pass"]), way, *(shown(each[key], places) for _, _, key, places in PASS_COLUMNS)]
-        for each, way in zip(worked.passes, ways)
+        [str(each["pass"]), told, *(shown(each[key], places) for _, _, key, places in PASS_COLUMNS)]
+        for each, told in zip(worked.passes, beside)
     ]
     return Grid([("", columns)], rows, () if worked.trips else foot_of(worked, len(columns)))
 

@@ -38,7 +38,6 @@ FACTORS = (
     Step("cpl", "CPL", UNIT, "1 / (1 - F x P), F 320", "ROUND(100000000000000/(100000000-320*{at_pressure}),0)"),
     Step("divisor", "CPS x CPL", "", "not rounded", "{cps}*{cpl}"),
 )  # fmt: skip
-
 TRIP_STEPS = (Step("trip", "Round trip", VOLUME, "out + back", "{out}+{back}"),)
 
 

@@ -9,7 +9,7 @@ from .page import Blanks, Grid, Notes, Octets, Pairs, Section
 # In millimetres: what Letter and A4 have in common inside margins of 12.
 WIDTH, HEIGHT, PLOT = 186, 251, 100
 LARGEST, SMALLEST, STEP = 3.1, 1.5, 0.05
-# A page whose letters would be smaller is set tight: its rows close together, and its last table beside the conclusion
+# A page whose letters would be smaller is set tight: its rows close together, and its third table beside the conclusion
 # where no plot stands there.
 LEGIBLE = 2.3
 # In sizes of a letter: a line, a table's line and a tight one, a digit, a letter of text, a column's padding.
@@ -37,7 +37,7 @@ class Parts:
 
     @property
     def tight(self):
-        """The same with the third table beside the conclusion, and a fourth above it there."""
+        """The same with the third table beside the conclusion, which a fourth then stands above."""
         if len(self.grids) < 3:
             return self
         starts = [at for at, block in enumerate(self.above) if isinstance(block, Section)]
