@@ -10,6 +10,18 @@ from .shapes import Draw, Fill
 LIMIT = 2
 
 
+def threes_at_the_limit(smallests, rng):
+    """Three volumes whose spread is the largest that is allowed, and one more; in any order."""
+    for smallest in smallests:
+        allowed = LIMIT * smallest // 10_000
+        for spread in (allowed, allowed + 1):
+            for middle in (0, spread, rng.randint(0, spread)):
+                three = [smallest, smallest + middle, smallest + spread]
+                for _ in range(2):
+                    rng.shuffle(three)
+                    yield three
+
+
 def valid_fill(rng):
     temperature = rng.randint(350, 1050)
     return Fill(

@@ -3,7 +3,7 @@
 from dataclasses import replace
 
 from . import draw_ends, draw_faults, draw_halves
-from .draw_days import LIMIT, valid_draw
+from .draw_days import threes_at_the_limit, valid_draw
 from .plain import LARGEST, fills_alike, plain_draw
 from .shapes import Draw, Fill, Prover
 
@@ -70,14 +70,9 @@ def count_ends(rng):
 
 
 def group_edges(rng):
-    for smallest in (20_000, 24_999, 25_000, 25_001, 1_000_000, 1_155_000, 2_086_982, 99_000_000):
-        allowed = LIMIT * smallest // 10_000
-        for spread in (allowed, allowed + 1):
-            for middle in (0, spread, rng.randint(0, spread)):
-                three = [smallest, smallest + middle, smallest + spread]
-                for _ in range(2):
-                    rng.shuffle(three)
-                    yield plain_draw(three).draw
+    smallests = 20_000, 24_999, 25_000, 25_001, 1_000_000, 1_155_000, 2_086_982, 99_000_000
+    for three in threes_at_the_limit(smallests, rng):
+        yield plain_draw(three).draw
     for off in range(9):
         yield plain_draw([1_000_000, 1_000_000, 1_000_000 + off]).draw
         yield plain_draw([970_200 * 5 + 48 + off] * 3).draw

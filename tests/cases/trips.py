@@ -5,7 +5,7 @@ from itertools import chain
 
 from . import draw_ends, draw_faults, trip_faults, trip_halves
 from .arithmetic import half_up
-from .draw_days import LIMIT, valid_draw
+from .draw_days import LIMIT, threes_at_the_limit, valid_draw
 from .plain import LARGEST, at_pressures, fills_alike, plain_draw, plain_trips
 from .shapes import Draw, Fill, Prover
 from .trip_days import valid_trips
@@ -73,14 +73,9 @@ def parted_trips(trips, rng):
 
 
 def group_edges(rng):
-    for smallest in (40_000, 49_999, 50_000, 50_001, 2_000_000, 4_238_695, 199_000_000):
-        allowed = LIMIT * smallest // 10_000
-        for spread in (allowed, allowed + 1):
-            for middle in (0, spread, rng.randint(0, spread)):
-                three = [smallest, smallest + middle, smallest + spread]
-                for _ in range(2):
-                    rng.shuffle(three)
-                    yield parted_trips(three, rng)
+    smallests = 40_000, 49_999, 50_000, 50_001, 2_000_000, 4_238_695, 199_000_000
+    for three in threes_at_the_limit(smallests, rng):
+        yield parted_trips(three, rng)
 
 
 def group_places(rng):
