@@ -32,5 +32,5 @@ PROFILES = {own.name: own for own in (UNIDIRECTIONAL, BIDIRECTIONAL)}
 
 
 def says_bidirectional(words):
-    """Whether a text has the profile's name in it, however it is written: Bi-directional pipe prover."""
-    return BIDIRECTIONAL.name in re.sub("[^a-z]", "", str(words).casefold())
+    """Whether a text is the profile's name and no more, however it is written: Bi-directional."""
+    return re.sub("[^a-z]", "", str(words).casefold()) == BIDIRECTIONAL.name

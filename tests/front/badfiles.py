@@ -133,7 +133,7 @@ CASES = (
      "profile: stands at the top of the file and belongs in [prover]"),
     ("profile in a fill", "draw", changed("pass = 1\n", f"pass = 1\n{PROFILE}", DRAW),
      "fill 1, profile: stands in fill 1 and belongs in [prover]"),
-    ("profile in the heading", "draw", changed("[heading]\n", '[heading]\nprofile = "Bi-directional prover"\n', DRAW),
+    ("profile in the heading", "draw", changed("[heading]\n", '[heading]\nprofile = "Bi-directional"\n', DRAW),
      "[heading], profile: stands in [heading] and belongs in [prover]"),
     ("profile of a proving", "prove", changed("[prover]\n", f"[prover]\n{PROFILE}"),
      "[prover], profile: stands in [prover] and belongs in [prover] of a water draw"),

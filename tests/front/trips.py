@@ -210,7 +210,9 @@ def same_said(tally, path):
 
 def free_heading(tally, path):
     """Under [heading] a profile is free, as every key there, unless the draw would be worked as what it is not."""
-    for text, said in ((SINGLE.read_text(), "unidirectional"), (SINGLE.read_text(), "A"), (PAIRED.read_text(), "B 2")):
+    single, paired = SINGLE.read_text(), PAIRED.read_text()
+    more = "bidirectional, out passes alone"
+    for text, said in ((single, "unidirectional"), (single, "A"), (single, more), (paired, "bidirectional")):
         path.write_text(text.replace("[heading]\n", f'[heading]\nprofile = "{said}"\n'))
         status, out, err = called("draw", path)
         tally.same((status, err), (0, ""), f"profile {said} in a heading")
