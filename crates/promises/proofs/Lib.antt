@@ -1,5 +1,6 @@
 pub mod Figures
 pub mod OutAndBack
+pub mod OneWay
 pub mod Endings
 pub mod Demand1
 pub mod Groups

@@ -13,6 +13,7 @@ pub mod Outcome
 pub mod OneOutcome
 pub mod Figures
 pub mod OutAndBack
+pub mod OneWay
 pub mod OneOutcomeC
 pub mod GrammarOutcome
 pub mod InPlace
