@@ -88,7 +88,7 @@ def foot_of(worked, columns):
 def passes_table(worked):
     """The passes: each with its mark where they are judged, or with the way that it goes where they come in pairs."""
     beside = cycle(WAYS) if worked.trips else [mark(each["pass"], worked) for each in worked.passes]
-    columns = [("Pass", ""), ("Direction" * bool(worked.trips), ""), *(column[:2] for column in PASS_COLUMNS)]
+    columns = [("Pass", ""), ("Direction" if worked.trips else "", ""), *(column[:2] for column in PASS_COLUMNS)]
     rows = [
         [str(each["pass"]), told, *(shown(each[key], places) for _, _, key, places in PASS_COLUMNS)]
         for each, told in zip(worked.passes, beside)
@@ -130,7 +130,7 @@ def conclusion(worked):
     if worked.refusal:
         return Notes(["None: the job is not accepted."])
     base, barrels, _ = worked.answer
-    of_trip = " of a round trip" * bool(worked.trips)
+    of_trip = " of a round trip" if worked.trips else ""
     told = f"{CUBIC_INCH.text(base)}{of_trip}, the mean of the three"
     return Pairs([("Base volume", told), ("In barrels", BARREL.text(barrels))])
 
