@@ -2,15 +2,17 @@
 use mathlib.Core.Path.{_≡_, ap, _∙_}
 use mathlib.Core.Bool.{Bool, true, false, _||_, not, or-true}
 use Prim.Native.Nat.{ℕ, _<_}
-use borrow.Author.Tests.{lt-ltb, ltb-true, ne-eqb, eqb-false, not-true}
-use lib.Dec.{ltb}
+use borrow.Author.Tests.{lt-ltb, ltb-true, ne-eqb, eqb-true, eqb-false, not-true}
+use lib.Dec.{ltb, eqb}
 use Rattle.refusals.specs.Told.{done, fine, demand}
 use Rattle.refusals.proofs.Laws.{orElse-fine-first, orElse-fine-next, demand-was}
 use Rattle.octets.specs.Lists.{isOneOf}
-use Rattle.book.specs.Figures.{shippers, reserve, ceiling, commons, waitingOf, has, commonsUsed}
+use Rattle.book.specs.Figures.{shippers, reserve, ceiling, commons, waitingOf, has, held, commonsUsed}
+use Rattle.book.specs.Rules.{keepRules}
 use Rattle.book.specs.Sound.{isSound}
-use Rattle.book.specs.Calls.{callFault, hasRoom, entryFault, requestFault, requestOf, withdrawalFault}
+use Rattle.book.specs.Calls.{callFault, hasRoom, entryFault, requestFault, requestOf, withdrawalFault, settingFault}
 use Rattle.book.specs.declared.Book.{Book}
+use Rattle.book.specs.declared.Figures.{Figures}
 use Rattle.book.proofs.Books.{SoundBook, sound-is, is-sound}
 
 -- what the first three tests tell where none of them is at fault
@@ -63,6 +65,20 @@ pub granted : (book : Book) (s x : ℕ) → withdrawalFault book s x ≡ fine �
 unfolding withdrawalFault
 granted book s x all =
     record { call = called book s x (orElse-fine-first _ _ all); waits = demand-was _ 26 (orElse-fine-next (callFault book s x) _ all) }
+
+-- what a setting that is made tells
+pub record Settable (book : Book) (figures : Figures) : Type 0 where
+  pub empty : held book ≡ 0
+  pub rules : keepRules figures ≡ true
+
+pub settable : (book : Book) (figures : Figures) → settingFault book figures ≡ fine → Settable book figures
+unfolding settingFault
+settable book figures all =
+    let from30 = orElse-fine-next (demand (isSound book) 20) _ all in
+    record {
+      empty = eqb-true _ _ (demand-was _ 30 (orElse-fine-first _ _ from30));
+      rules = demand-was _ 31 (orElse-fine-next (demand (eqb (held book) 0) 30) _ from30);
+    }
 
 -- room: below the reserve, or in the commons
 module _ (book : Book) (s : ℕ) where

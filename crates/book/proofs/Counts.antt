@@ -9,10 +9,10 @@ use lib.Dec.{eqb}
 use Rattle.book.specs.Line.{without}
 use Rattle.book.specs.Figures.{waitingOf}
 use Rattle.book.specs.Calls.{entered, removed}
-use Rattle.book.specs.Demand3.{Call, request, withdrawal, take, Answer, answerTo, after, afterAll, step, answersTo, grants, goesIn, isWithdrawn, isTaken, howOften, times}
+use Rattle.book.specs.Demand3.{Call, request, withdrawal, take, setting, Answer, answerTo, after, afterAll, step, answersTo, grants, goesIn, isWithdrawn, isTaken, howOften, times}
 use Rattle.book.specs.declared.Book.{Book}
 use Rattle.book.proofs.Books.{SoundBook}
-use Rattle.book.proofs.Kept.{In, no-in, went-in, Out, no-out, went-out, request-did, withdrawal-did, take-did, sound-after, put-line}
+use Rattle.book.proofs.Kept.{In, no-in, went-in, Out, no-out, went-out, request-did, withdrawal-did, take-did, setting-did, set-line, sound-after, put-line}
 use Rattle.book.proofs.Waiting.{once, times-append, times-without}
 
 module _ (s x : ℕ) (book : Book) (sound : SoundBook book) where
@@ -42,6 +42,7 @@ unfolding goesIn isTaken isWithdrawn after
 moves s x (request t y) book sound = let h = in-counts s x book sound (request-did book t y) in omega arith
 moves s x (withdrawal t y) book sound = let h = out-counts s x book sound (withdrawal-did book t y) in omega arith
 moves s x take book sound = let h = out-counts s x book sound (take-did book) in omega arith
+moves s x (setting figures) book sound = let h = ap (times x) (set-line book s (setting-did book figures)) in omega arith
 
 -- over all calls
 pub balance : (s x : ℕ) (calls : List Call) (book : Book) → SoundBook book

@@ -1,29 +1,31 @@
 -- The customer's third demand, sentence by sentence, about the meanings that the contracts of `request`, `withdraw` and
 -- `take` cite. Nearly all of it holds of any sound book, and calls in any order leave a sound book sound (`always-sound`); what
--- was counted from the first call on holds from any sound, empty book. The figures of the paper, 2, 8 and 8, are the book's
--- own: `reserve`, `ceiling` and `commons`.
+-- was counted from the first call on holds from any sound, empty book. The figures are the book's own: `reserve`, `ceiling` and
+-- `commons`; the customer's, 2, 8 and 8, are those of a new book (`default-figures`).
 use mathlib.Core.Path.{_≡_, refl, sym, ap, _∙_, subst}
 use mathlib.Core.Logic.{⊎-elim}
 use mathlib.Core.Bool.{true, false, _||_, not, cond}
 use mathlib.Core.List.{List, [], _∷_, _++_}
 use mathlib.Core.Option.{Option, none, some}
-use Prim.Native.Nat.{ℕ, suc, _+_, _*_, _≤_, _<_, _%_}
+use Prim.Native.Nat.{ℕ, suc, _+_, _*_, _-_, _≤_, _<_, _%_}
 use native.Mathlib.Nat.{lt-of-not-le}
 use native.Mathlib.Omega.{arith}
 use borrow.Author.Tests.{eq-eqb, ltb-false, le-ltb}
 use lib.Dec.{ltb, eqb}
-use lib.ListN.{length, getD, length-append}
+use lib.ListN.{length, getD, length-append, getD-replicate}
 use lib.Seq.{getD-append-seam}
 use Rattle.refusals.specs.Told.{Told, done, refused, demand, orElse, judged, leftBy}
 use Rattle.refusals.proofs.Laws.{judged-was, refused-not-done}
 use Rattle.octets.specs.FirstToLast.{placeIf}
 use Rattle.octets.specs.Lists.{isOneOf}
 use Rattle.octets.proofs.FirstToLast.{places as searched, same as searched-same}
-use Rattle.book.specs.Figures.{shippers, overShippers, places, reserve, ceiling, commons, waitingOf, has, held, commonsUsed}
+use Rattle.book.specs.Figures.{shippers, overShippers, reserveIn, ceilingIn, places, reserve, ceiling, commons, waitingOf, has, held, commonsUsed, defaultFigures}
 use Rattle.book.specs.Sound.{isSound}
 use Rattle.book.specs.Calls.{callFault, hasRoom, entryFault, requestFault, requestOf, entered, afterRequest, ofTurn, hasAny, nextTurn, oldestOf, handedOut, takeOf}
 use Rattle.book.specs.Demand3.{SoundEmpty, Call, request, after, afterAll, answersTo, goesIn, isWithdrawn, isTaken, howOften, times, waits, fateOf, NoLaterThan}
 use Rattle.book.specs.declared.Book.{Book}
+use Rattle.book.specs.declared.Figures.{Figures}
+use Rattle.book.proofs.Agreed.{agreed-is}
 use Rattle.book.proofs.Books.{SoundBook, sound-is, is-sound, holds-its-places}
 use Rattle.book.proofs.Bools.{decided}
 use Rattle.book.proofs.Calls.{Accepted, accepted, request-in, room-reserve, room-commons}
@@ -34,10 +36,13 @@ use Rattle.book.proofs.Kept.{sound-after, sound-all, at-ceiling, at-pro
 use Rattle.book.proofs.Puts.{waiting-put}
 use Rattle.book.proofs.Waiting.{Stands, times-append, times-none, times-once, once}
 
--- The figures of 01: 'places 16, reserve 2, ceiling 8 and commons 8'.
-pub figures : (book : Book) (shipper : ℕ) → (places book ≡ 16) × (reserve book shipper ≡ 2) × (ceiling book shipper ≡ 8) × (commons book ≡ 8)
-unfolding places reserve ceiling commons overShippers
-figures book shipper = (refl, refl, refl, refl)
+-- The figures of 01: 'places 16, reserve 2, ceiling 8 and commons 8', as long as nothing else is agreed.
+pub default-figures : (book : Book) → book .figures ≡ defaultFigures
+    → ((shipper : ℕ) → shipper < 4 → (reserve book shipper ≡ 2) × (ceiling book shipper ≡ 8)) × (commons book ≡ 8) × (places book ≡ 16)
+unfolding places reserve ceiling commons overShippers reserveIn ceilingIn defaultFigures shippers
+default-figures book is =
+    (λ shipper known. (ap (λ (f : Figures). reserveIn f shipper) is ∙ getD-replicate 4 shipper 2 0 known, ap (λ (f : Figures). ceilingIn f shipper) is ∙ getD-replicate 4 shipper 8 0 known),
+    ap (λ (f : Figures). 16 - overShippers (reserveIn f)) is, refl)
 
 -- (f) 'Start from a sound, empty book and make any requests, withdrawals and takes in any order': every call keeps a sound book sound.
 pub every-call-keeps-soundness : (call : Call) (book : Book) → isSound book ≡ true → isSound (after call book) ≡ true
@@ -47,7 +52,7 @@ pub always-sound : (calls : List Call) (start : Book) → isSound start ≡ true
 always-sound calls start is = is-sound (afterAll calls start) (sound-all calls start (sound-is start is))
 
 module _ (book : Book) (is : isSound book ≡ true) (shipper : ℕ) (known : shipper < 4) where
-  -- (c) 'Nobody ever has more than 8 waiting.'
+  -- (c) 'Nobody ever has more than' its ceiling 'waiting.'
   pub never-above-the-ceiling : has book shipper ≤ ceiling book shipper
   never-above-the-ceiling = at-ceiling book (sound-is book is) shipper known
 
@@ -61,12 +66,14 @@ module _ (book : Book) (is : isSound book ≡ true) (shipper : ℕ) (known : shi
     goes-in below room =
         request-in book shipper number (record { call = record { sound = sound-is book is; known = known; valid = valid }; new = new; below = below; room = room })
 
-    -- (a) 'A shipper with fewer than 2 requests waiting always gets a valid new one in (number not zero, not waiting in its line);'
+    -- (a) 'A shipper with fewer than' its reserve 'waiting always gets a valid new one in (number not zero, not waiting in its line);'
     pub below-the-reserve-goes-in : has book shipper < reserve book shipper → requestOf book shipper number ≡ done tt
     unfolding reserve ceiling
-    below-the-reserve-goes-in few = goes-in (omega arith) (room-reserve book shipper few)
+    below-the-reserve-goes-in few =
+        let own = agreed-is (book .figures) (sound-is book is .rules) .each shipper known .own in
+        goes-in (omega arith) (room-reserve book shipper few)
 
-    -- (b) 'one with 2 to 7 is refused it only when the 8 shared places are used up.'
+    -- (b) one with its reserve or more, below its ceiling, 'is refused it only when the .. shared places are used up.'
     pub refused-only-when-commons-full : has book shipper < ceiling book shipper → (n at : ℕ) → requestOf book shipper number ≡ refused n at → commonsUsed book ≡ commons book
     refused-only-when-commons-full below n at refusal =
         let most = sound-is book is .used in
@@ -144,17 +151,18 @@ pub all-accounted-for : (start : Book) → SoundEmpty start → (calls : List Ca
     ≡ howOften (isTaken shipper number) (answersTo calls start) + howOften (isWithdrawn shipper number) (answersTo calls start) + times number (waitingOf (afterAll calls start) shipper)
 unfolding times
 all-accounted-for start from calls s x =
-    let none = ap (times x) (nothing-waits start from s) in
+    let none = ap (times x) (nothing-waits start (sound-is start (from .sound)) (from .empty) s) in
     let sum = balance s x calls start (sound-is start (from .sound)) in
     omega arith
 
--- what two books have in common in which a shipper's line and another's are the same
-same-room : (book other : Book) (s t : ℕ) → waitingOf book s ≡ waitingOf other t → (reserve book s ≤ has book s → commonsUsed book ≡ commonsUsed other) → hasRoom book s ≡ hasRoom other t
-unfolding hasRoom has reserve commons places overShippers
-same-room book other s t line used =
-    let many : length (waitingOf book s) ≡ length (waitingOf other t) = ap length line in
-    ⊎-elim (λ few. (λ i. few i || ltb (commonsUsed book) 8) ∙ sym (λ i. (ap (λ (n : ℕ). ltb n 2) (sym many) ∙ few) i || ltb (commonsUsed other) 8))
-    (λ full. λ i. ltb (many i) 2 || ltb (used (ltb-false _ _ full) i) 8) (decided (ltb (length (waitingOf book s)) 2))
+-- what two books have in common in which a shipper's line and reserve and another's are the same
+same-room : (book other : Book) (s t : ℕ) → waitingOf book s ≡ waitingOf other t → reserve book s ≡ reserve other t
+    → (reserve book s ≤ has book s → (commonsUsed book ≡ commonsUsed other) × (commons book ≡ commons other)) → hasRoom book s ≡ hasRoom other t
+unfolding hasRoom has
+same-room book other s t line own used =
+    let few : ltb (length (waitingOf book s)) (reserve book s) ≡ ltb (length (waitingOf other t)) (reserve other t) = λ i. ltb (length (line i)) (own i) in
+    ⊎-elim (λ is. (λ i. is i || ltb (commonsUsed book) (commons book)) ∙ sym (λ i. (sym few ∙ is) i || ltb (commonsUsed other) (commons other)))
+    (λ full. let same = used (ltb-false _ _ full) in λ i. few i || ltb (same .0 i) (same .1 i)) (decided (ltb (length (waitingOf book s)) (reserve book s)))
 
 module _ (book other : Book) (lines : (s : ℕ) → s < 4 → waitingOf book s ≡ waitingOf other s) (last : book .last ≡ other .last) where
   same-shipper : (turn : ℕ) → ofTurn book turn ≡ ofTurn other turn
@@ -173,19 +181,20 @@ module _ (book other : Book) (lines : (s : ℕ) → s < 4 → waitingOf book s �
   same-handed none = refl
   same-handed (some turn) = λ i. done (record { shipper = same-shipper turn i; number = getD (same-line turn i) 0 0 })
 
--- 01: 'In a sound book a request's answer depends on the number asked, its shipper's line and, from 2 waiting upward, commons
--- used; on nothing else': in any two sound books, and for any two shippers, known or not.
+-- 01: 'In a sound book a request's answer depends on the number asked, its shipper's line and, from' its reserve 'upward, commons
+-- used; on nothing else', but for 'these figures too', its shipper's own two and the book's commons: in any two sound books, and for any
+-- two shippers, known or not.
 pub request-depends-on : (book other : Book) (s t number : ℕ) → isSound book ≡ true → isSound other ≡ true → ltb s shippers ≡ ltb t shippers → waitingOf book s ≡ waitingOf other t
-    → (reserve book s ≤ has book s → commonsUsed book ≡ commonsUsed other) → requestOf book s number ≡ requestOf other t number
-unfolding requestOf requestFault callFault entryFault has reserve ceiling
-request-depends-on book other s t x sound sound′ known line used =
+    → reserve book s ≡ reserve other t → ceiling book s ≡ ceiling other t → (reserve book s ≤ has book s → (commonsUsed book ≡ commonsUsed other) × (commons book ≡ commons other))
+    → requestOf book s number ≡ requestOf other t number
+unfolding requestOf requestFault callFault entryFault has
+request-depends-on book other s t x sound sound′ known line own top used =
     let both : isSound book ≡ isSound other = sound ∙ sym sound′ in
-    let many : length (waitingOf book s) ≡ length (waitingOf other t) = ap length line in
-    let room = same-room book other s t line used in
+    let room = same-room book other s t line own used in
     λ i.
     judged
     (orElse (orElse (demand (both i) 20) (orElse (demand (known i) 21) (demand (not (eqb x 0)) 22)))
-    (orElse (demand (not (isOneOf x (line i))) 23) (orElse (demand (ltb (many i) 8) 24) (demand (room i) 25)))) tt
+    (orElse (demand (not (isOneOf x (line i))) 23) (orElse (demand (ltb (length (line i)) (top i)) 24) (demand (room i) 25)))) tt
 
 -- an unknown shipper's is 21 in every sound book
 pub unknown-shipper : (book : Book) (shipper number : ℕ) → isSound book ≡ true → 4 ≤ shipper → requestOf book shipper number ≡ refused 21 0

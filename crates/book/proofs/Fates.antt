@@ -18,11 +18,11 @@ use Rattle.octets.specs.Lists.{isOneOf}
 use Rattle.octets.proofs.FirstToLast.{place-none}
 use Rattle.book.specs.Line.{without}
 use Rattle.book.specs.Figures.{shippers, waitingOf, has, put}
-use Rattle.book.specs.Calls.{entered, afterRequest, removed, afterWithdrawal, ofTurn, hasAny, nextTurn, oldestOf, handedOut, takeOf, afterTake}
-use Rattle.book.specs.Demand3.{Call, request, withdrawal, take, Answer, answerTo, after, afterAll, Step, step, answersTo, takes, grants, isWithdrawn, isTaken, Fate, taken, withdrawn, waits, earlier, fateOf, NoLaterThan}
+use Rattle.book.specs.Calls.{entered, afterRequest, removed, afterWithdrawal, ofTurn, hasAny, nextTurn, oldestOf, handedOut, takeOf, afterTake, afterSetting}
+use Rattle.book.specs.Demand3.{Call, request, withdrawal, take, setting, Answer, answerTo, after, afterAll, Step, step, answersTo, takes, grants, isWithdrawn, isTaken, Fate, taken, withdrawn, waits, earlier, fateOf, NoLaterThan}
 use Rattle.book.specs.declared.Book.{Book}
 use Rattle.book.proofs.Books.{SoundBook, is-sound}
-use Rattle.book.proofs.Kept.{In, no-in, went-in, Out, no-out, went-out, request-did, in-turn, withdrawal-did, withdrawal-turn, take-did, turn-known, turn-first, turn-any, sound-after, put-line}
+use Rattle.book.proofs.Kept.{In, no-in, went-in, Out, no-out, went-out, request-did, in-turn, withdrawal-did, withdrawal-turn, take-did, setting-did, set-line, set-turn, turn-known, turn-first, turn-any, sound-after, put-line}
 use Rattle.book.proofs.Puts.{waiting-put}
 use Rattle.book.proofs.Waiting.{Stands, stands-without, oldest-without, among-at}
 
@@ -235,6 +235,12 @@ module _ (s x : ℕ) where
           → Comes m (step (withdrawal u y) (answerTo (withdrawal u y) book) ∷ rest) left (cond gone withdrawn (fateOf s x rest))
       by true is then = tt
       by false is then = not-a-take m (step (withdrawal u y) (answerTo (withdrawal u y) book)) rest left refl (fateOf s x rest) (then is)
+  comes (setting figures ∷ calls) book k t m sound w h =
+      let did = setting-did book figures in
+      let next = afterSetting book figures in
+      let still = waits-still s x book sound k t w next (set-turn book did) (subst (λ (ys : List ℕ). Stands x ys k) (sym (set-line book s did)) (w .stands)) in
+      let steps = answersTo calls next in
+      not-a-take m (step (setting figures) (answerTo (setting figures) book)) steps (afterAll calls next) refl (fateOf s x steps) (comes calls next k t m (sound-after (setting figures) book sound) still h)
   comes (take ∷ calls) book k t zero sound w h = let one = w .one in absurd (omega arith)
   comes (take ∷ calls) book k t (suc m) sound w h =
       by (grants s x (answerTo take book)) refl

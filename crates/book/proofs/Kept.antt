@@ -16,15 +16,18 @@ use Rattle.octets.specs.FirstToLast.{placeIf}
 use Rattle.octets.specs.Lists.{isOneOf}
 use Rattle.octets.proofs.FirstToLast.{places as searched, nowhere, place-no, First, place-first, first-place}
 use Rattle.book.specs.Line.{without, areProper}
-use Rattle.book.specs.Figures.{shippers, reserve, ceiling, commons, lineAt, waitingOf, has, commonsUsed, put}
+use Rattle.book.specs.Figures.{shippers, reserve, ceiling, commons, lineAt, waitingOf, has, held, commonsUsed, put}
+use Rattle.book.specs.Rules.{keepRules}
 use Rattle.book.specs.Sound.{isSound}
 use Rattle.book.specs.Answers.{Handed}
-use Rattle.book.specs.Calls.{requestFault, requestOf, entered, afterRequest, withdrawalFault, withdrawalOf, removed, afterWithdrawal, hasRoom, ofTurn, hasAny, nextTurn, oldestOf, handedOut, takeOf, afterTake}
-use Rattle.book.specs.Demand3.{Call, request, withdrawal, take, Answer, answerTo, after, afterAll}
+use Rattle.book.specs.Calls.{requestFault, requestOf, entered, afterRequest, withdrawalFault, withdrawalOf, removed, afterWithdrawal, hasRoom, ofTurn, hasAny, nextTurn, oldestOf, handedOut, takeOf, afterTake, settingFault, settingOf, agreed, afterSetting}
+use Rattle.book.specs.Demand3.{Call, request, withdrawal, take, setting, Answer, answerTo, after, afterAll}
 use Rattle.book.specs.declared.Book.{Book}
+use Rattle.book.specs.declared.Figures.{Figures}
 use Rattle.book.proofs.Books.{SoundBook, has-count}
 use Rattle.book.proofs.Bools.{decided}
-use Rattle.book.proofs.Calls.{Accepted, accepted, granted}
+use Rattle.book.proofs.Calls.{Accepted, accepted, granted, Settable, settable}
+use Rattle.book.proofs.Empty.{sound-agreed}
 use Rattle.book.proofs.Puts.{sound-put, commons-put, waiting-put, waiting-put-other}
 use Rattle.book.proofs.Waiting.{among-at, proper-more, proper-without, length-without}
 
@@ -55,7 +58,31 @@ withdrawal-did book s x = by (withdrawalFault book s x) refl
     by fine is = let told = granted book s x is in went-out s x (book .last) (told .call .known) (told .waits) (told .call .sound .turn)
     by (fault n at) is = no-out n at
 
--- neither of the two moves the turn on
+-- a setting is refused, or the figures are agreed in an empty book
+pub data Set (book : Book) : Book → Type 0 where
+  no-set : Set book book
+  was-set : (figures : Figures) → held book ≡ 0 → keepRules figures ≡ true → Set book (agreed book figures)
+
+pub setting-did : (book : Book) (figures : Figures) → Set book (afterSetting book figures)
+unfolding afterSetting settingOf
+setting-did book figures = by (settingFault book figures) (settable book figures)
+  where
+    by : (f : Fault) → (f ≡ fine → Settable book figures) → Set book (leftBy (judged {A = Unit {0}} f tt) (λ (made : Unit). agreed book figures) book)
+    by fine told = let it = told refl in was-set figures (it .empty) (it .rules)
+    by (fault n at) told = no-set
+
+-- the lines and the turn stay as they were
+pub set-line : (book : Book) {left : Book} (s : ℕ) → Set book left → waitingOf left s ≡ waitingOf book s
+unfolding agreed waitingOf lineAt
+set-line book s no-set = refl
+set-line book s (was-set figures empty rules) = refl
+
+pub set-turn : (book : Book) {left : Book} → Set book left → left .last ≡ book .last
+unfolding agreed
+set-turn book no-set = refl
+set-turn book (was-set figures empty rules) = refl
+
+-- a request and a withdrawal do not move the turn on
 pub in-turn : (book : Book) {answer : Answer} {left : Book} → In book answer left → left .last ≡ book .last
 unfolding entered put
 in-turn book (no-in n at) = refl
@@ -169,11 +196,16 @@ sound-out book sound (went-out s x last known waits turn) =
     let change = commons-put book s (without x w) last (sound .four) known in
     sound-put book s (without x w) last sound known (omega arith) (proper-without x w (at-proper book sound s known)) (omega arith) turn
 
+sound-set : (book : Book) → SoundBook book → {left : Book} → Set book left → SoundBook left
+sound-set book sound no-set = sound
+sound-set book sound (was-set figures empty rules) = sound-agreed book sound empty figures rules
+
 pub sound-after : (call : Call) (book : Book) → SoundBook book → SoundBook (after call book)
 unfolding after
 sound-after (request s x) book sound = sound-in book sound (request-did book s x)
 sound-after (withdrawal s x) book sound = sound-out book sound (withdrawal-did book s x)
 sound-after take book sound = sound-out book sound (take-did book)
+sound-after (setting figures) book sound = sound-set book sound (setting-did book figures)
 
 pub sound-all : (calls : List Call) (book : Book) → SoundBook book → SoundBook (afterAll calls book)
 unfolding afterAll

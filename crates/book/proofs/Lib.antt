@@ -2,12 +2,13 @@ pub mod Bools
 pub mod Lists
 pub mod Waiting
 pub mod Lines
+pub mod Agreed
 pub mod Books
 pub mod Calls
 pub mod Puts
+pub mod Empty
 pub mod Kept
 pub mod Fates
 pub mod Counts
-pub mod Empty
 pub mod Demand3
 pub mod Outcomes

@@ -19,12 +19,13 @@ waiting-line-of : (xs : List ℕ) → waiting (lineOf xs) ≡ xs
 unfolding waiting lineOf
 waiting-line-of xs = take-at xs _ (length xs) refl
 
-line-of-sound : (top : ℕ) (xs : List ℕ) → length xs ≤ 16 → length xs ≤ top → areProper xs ≡ true → SoundLine top (lineOf xs)
+line-of-sound : (top : ℕ) (xs : List ℕ) → top ≤ 16 → length xs ≤ top → areProper xs ≡ true → SoundLine top (lineOf xs)
 unfolding lineOf
-line-of-sound top xs fits few proper =
+line-of-sound top xs narrow few proper =
     record {
       wide = simp (length-append, length-replicate) (omega arith);
       few = few;
+      narrow = narrow;
       proper = ap areProper (waiting-line-of xs) ∙ proper;
       unused = zero-all (xs ++ replicate (16 - length xs) 0) (length xs) 16 unused;
     }
@@ -63,10 +64,10 @@ module _ (book : Book) (s : ℕ) (xs : List ℕ) (last : ℕ) where
     waiting-put = ap waiting at-put ∙ waiting-line-of xs
 
     pub commons-put : commonsUsed (put book s xs last) + (has book s - reserve book s) ≡ commonsUsed book + (length xs - reserve book s)
-    unfolding commonsUsed beyond reserve has
+    unfolding commonsUsed beyond reserve has put
     commons-put =
-        sum-change (beyond book) (beyond (put book s xs last)) s known (λ t other. ap (λ (ys : List ℕ). length ys - 2) (waiting-put-other t other))
-        ∙ ap (λ (ys : List ℕ). overShippers (beyond book) + (length ys - 2)) waiting-put
+        sum-change (beyond book) (beyond (put book s xs last)) s known (λ t other. ap (λ (ys : List ℕ). length ys - reserve book t) (waiting-put-other t other))
+        ∙ ap (λ (ys : List ℕ). overShippers (beyond book) + (length ys - reserve book s)) waiting-put
 
   -- a book stays sound where the new line is proper and within the ceiling, and the commons hold it
   pub sound-put : SoundBook book → s < 4 → length xs ≤ ceiling book s → areProper xs ≡ true → commonsUsed (put book s xs last) ≤ commons book → last < 4 → SoundBook (put book s xs last)
@@ -74,12 +75,14 @@ module _ (book : Book) (s : ℕ) (xs : List ℕ) (last : ℕ) where
   sound-put sound known few proper fits turn =
       record {
         four = length-set (book .lines) s (lineOf xs) ∙ sound .four;
+        rules = sound .rules;
         lines = λ t h. by t h (ℕ-discrete t s);
         used = fits;
         turn = turn;
       }
     where
-      by : (t : ℕ) → t < 4 → Dec (t ≡ s) → SoundLine 8 (lineAt (put book s xs last) t)
+      by : (t : ℕ) → t < 4 → Dec (t ≡ s) → SoundLine (ceiling book t) (lineAt (put book s xs last) t)
       by t h (yes same) =
-          subst (λ (line : Line). SoundLine 8 line) (sym (ap (lineAt (put book s xs last)) same ∙ at-put (sound .four) known)) (line-of-sound 8 xs (omega arith) few proper)
-      by t h (no other) = subst (λ (line : Line). SoundLine 8 line) (sym (at-put-other t other)) (sound .lines t h)
+          let mine = line-of-sound (ceiling book s) xs (sound .lines s known .narrow) few proper in
+          subst (λ (n : ℕ). SoundLine (ceiling book n) (lineAt (put book s xs last) n)) (sym same) (subst (SoundLine (ceiling book s)) (sym (at-put (sound .four) known)) mine)
+      by t h (no other) = subst (SoundLine (ceiling book t)) (sym (at-put-other t other)) (sound .lines t h)

@@ -1,4 +1,4 @@
--- 01, 'The book': what a request, a withdrawal and a take answer, and the book that each leaves.
+-- 01, 'The book', and 02, 'Places by agreement': what a request, a withdrawal, a take and a setting answer, and the book that each leaves.
 use mathlib.Core.Bool.{Bool, _||_, not}
 use mathlib.Core.List.{[], _∷_, _++_}
 use mathlib.Core.Option.{Option, none, some}
@@ -9,10 +9,12 @@ use Rattle.refusals.specs.Told.{Told, done, refused, Fault, demand, orElse, unl
 use Rattle.octets.specs.FirstToLast.{firstPlace}
 use Rattle.octets.specs.Lists.{isOneOf}
 use Rattle.book.specs.Line.{without}
-use Rattle.book.specs.Figures.{shippers, reserve, ceiling, commons, waitingOf, has, commonsUsed, put}
+use Rattle.book.specs.Figures.{shippers, reserve, ceiling, commons, waitingOf, has, held, commonsUsed, put}
+use Rattle.book.specs.Rules.{keepRules}
 use Rattle.book.specs.Sound.{isSound}
-use Rattle.book.specs.Answers.{Handed}
+use Rattle.book.specs.Answers.{Handed, Shared}
 use Rattle.book.specs.declared.Book.{Book}
+use Rattle.book.specs.declared.Figures.{Figures}
 
 -- 'a request 20 to 25; a withdrawal 20, 21, 22, 26': the first three are the same.
 unfoldable pub callFault : Book → ℕ → ℕ → Fault
@@ -21,7 +23,7 @@ callFault book shipper number =
     (orElse (demand (ltb shipper shippers) 21)
     (demand (not (eqb number 0)) 22))
 
--- 25: 'has 2 or more and commons full'
+-- 25: has its reserve 'or more and commons full'
 unfoldable pub hasRoom : Book → ℕ → Bool
 hasRoom book shipper = ltb (has book shipper) (reserve book shipper) || ltb (commonsUsed book) (commons book)
 
@@ -90,3 +92,24 @@ takeOf book = unless (demand (isSound book) 20) (handedOut book (nextTurn book))
 -- 'only a take that hands one out changes' the last served
 unfoldable pub afterTake : Book → Book
 afterTake book = leftBy (takeOf book) (λ (handed : Handed). removed book (handed .shipper) (handed .number) (handed .shipper)) book
+
+-- '30 for setting a book that isn't empty, 31 for figures outside the rules, after 20'
+unfoldable pub settingFault : Book → Figures → Fault
+settingFault book figures =
+    orElse (demand (isSound book) 20)
+    (orElse (demand (eqb (held book) 0) 30)
+    (demand (keepRules figures) 31))
+
+unfoldable pub settingOf : Book → Figures → Told Unit
+settingOf book figures = judged (settingFault book figures) tt
+
+-- 'the turn order is kept', and the lines stay empty
+unfoldable pub agreed : Book → Figures → Book
+agreed book figures = record { lines = book .lines; last = book .last; figures = figures }
+
+unfoldable pub afterSetting : Book → Figures → Book
+afterSetting book figures = leftBy (settingOf book figures) (λ (made : Unit). agreed book figures) book
+
+-- what the commons are asked: 20 for a book that isn't sound
+unfoldable pub commonsOf : Book → Told Shared
+commonsOf book = judged (demand (isSound book) 20) (record { commons = commons book; used = commonsUsed book })

@@ -1,4 +1,5 @@
--- Demand 3: 'any requests, withdrawals and takes in any order'. What a sequence of calls does to a book, and what becomes of a request.
+-- Demand 3: 'any requests, withdrawals and takes in any order', and figures set between. What a sequence of calls does to a book, and what
+-- becomes of a request.
 use mathlib.Core.Path.{_≡_}
 use mathlib.Core.Bool.{Bool, true, false, _&&_, cond}
 use mathlib.Core.List.{List, [], _∷_}
@@ -8,34 +9,42 @@ use Rattle.refusals.specs.Told.{Told, done, refused, judged}
 use Rattle.book.specs.Figures.{held}
 use Rattle.book.specs.Sound.{isSound}
 use Rattle.book.specs.Answers.{Handed}
-use Rattle.book.specs.Calls.{requestFault, afterRequest, withdrawalFault, afterWithdrawal, takeOf, afterTake}
+use Rattle.book.specs.Calls.{requestFault, afterRequest, withdrawalFault, afterWithdrawal, takeOf, afterTake, settingFault, afterSetting}
 use Rattle.book.specs.declared.Book.{Book}
+use Rattle.book.specs.declared.Figures.{Figures}
 
--- 'a sound, empty book': nothing waits in it, whoever was served last
+-- 'a sound, empty book': nothing waits in it, whoever was served last and whatever its figures are
 pub record SoundEmpty (book : Book) : Type 0 where
   pub sound : isSound book ≡ true
   pub empty : held book ≡ 0
 
--- A call on the book: a shipper's request or withdrawal of a number, or a take.
+-- A call on the book: a shipper's request or withdrawal of a number, a take, or the setting of figures.
 pub data Call : Type 0 where
   request : ℕ → ℕ → Call
   withdrawal : ℕ → ℕ → Call
   take : Call
+  setting : Figures → Call
 
--- What any call is answered: the request that went in, was withdrawn or was handed out; or the number of the refusal.
+-- What any call is answered: the request that went in, was withdrawn or was handed out; or the number of the refusal. Where figures were set
+-- it is about no request: its number is 0, which no request has.
 abbrev pub Answer : Type 0
 Answer = Told Handed
+
+abbrev pub noRequest : Handed
+noRequest = record { shipper = 0; number = 0 }
 
 unfoldable pub answerTo : Call → Book → Answer
 answerTo (request shipper number) book = judged (requestFault book shipper number) (record { shipper = shipper; number = number })
 answerTo (withdrawal shipper number) book = judged (withdrawalFault book shipper number) (record { shipper = shipper; number = number })
 answerTo take book = takeOf book
+answerTo (setting figures) book = judged (settingFault book figures) noRequest
 
 -- The book that a call leaves.
 unfoldable pub after : Call → Book → Book
 after (request shipper number) book = afterRequest book shipper number
 after (withdrawal shipper number) book = afterWithdrawal book shipper number
 after take book = afterTake book
+after (setting figures) book = afterSetting book figures
 
 -- The book that a sequence of calls leaves.
 unfoldable pub afterAll : List Call → Book → Book
@@ -57,6 +66,7 @@ takes [] = 0
 takes (step (request shipper number) answer ∷ steps) = takes steps
 takes (step (withdrawal shipper number) answer ∷ steps) = takes steps
 takes (step take answer ∷ steps) = suc (takes steps)
+takes (step (setting figures) answer ∷ steps) = takes steps
 
 -- The answer is that this request went in, was withdrawn or was handed out.
 abbrev pub grants : ℕ → ℕ → Answer → Bool
@@ -68,18 +78,21 @@ unfoldable pub goesIn : ℕ → ℕ → Step → Bool
 goesIn shipper number (step (request s x) answer) = grants shipper number answer
 goesIn shipper number (step (withdrawal s x) answer) = false
 goesIn shipper number (step take answer) = false
+goesIn shipper number (step (setting figures) answer) = false
 
 -- At this step its shipper's withdrawal of it is granted.
 unfoldable pub isWithdrawn : ℕ → ℕ → Step → Bool
 isWithdrawn shipper number (step (request s x) answer) = false
 isWithdrawn shipper number (step (withdrawal s x) answer) = grants shipper number answer
 isWithdrawn shipper number (step take answer) = false
+isWithdrawn shipper number (step (setting figures) answer) = false
 
 -- At this step it is taken.
 unfoldable pub isTaken : ℕ → ℕ → Step → Bool
 isTaken shipper number (step (request s x) answer) = false
 isTaken shipper number (step (withdrawal s x) answer) = false
 isTaken shipper number (step take answer) = grants shipper number answer
+isTaken shipper number (step (setting figures) answer) = false
 
 -- At how many of the steps this happens.
 unfoldable pub howOften : (Step → Bool) → List Step → ℕ
@@ -104,6 +117,7 @@ earlier (step take answer) withdrawn = withdrawn
 earlier (step take answer) waits = waits
 earlier (step (request s x) answer) fate = fate
 earlier (step (withdrawal s x) answer) fate = fate
+earlier (step (setting figures) answer) fate = fate
 
 unfoldable pub fateOf : ℕ → ℕ → List Step → Fate
 fateOf shipper number [] = waits

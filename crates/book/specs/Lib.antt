@@ -1,5 +1,6 @@
 pub mod Line
 pub mod Figures
+pub mod Rules
 pub mod Sound
 pub mod Answers
 pub mod Calls

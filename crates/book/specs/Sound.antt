@@ -1,4 +1,4 @@
--- 01, 'The book': when a book offered from outside is sound. Its record has the shape that every machine gives it: a line for each
+-- 01, 'The book', and 02, 'Places by agreement': when a book offered from outside is sound. Its record has the shape that every machine gives it: a line for each
 -- shipper, each as wide as a line is.
 use mathlib.Core.Bool.{Bool, _&&_}
 use Prim.Native.Nat.{ℕ}
@@ -8,6 +8,7 @@ use Rattle.octets.specs.FirstToLast.{holdsAll}
 use Rattle.octets.specs.Octets.{zeroBetween}
 use Rattle.book.specs.Line.{width, waiting, areProper}
 use Rattle.book.specs.Figures.{shippers, ceiling, commons, lineAt, commonsUsed}
+use Rattle.book.specs.Rules.{keepRules}
 use Rattle.book.specs.declared.Book.{Book}
 use Rattle.book.specs.declared.Line.{Line}
 
@@ -26,9 +27,10 @@ isSoundAt book shipper = isLineSound (ceiling book shipper) (lineAt book shipper
 unfoldable pub areLinesSound : Book → Bool
 areLinesSound book = holdsAll (isSoundAt book) shippers 0
 
--- 'counts and commons keep these figures, .. and the last served is 0 to 3'
+-- 'A book with figures outside these rules isn't sound'; 'counts and commons keep these figures, .. and the last served is 0 to 3'
 unfoldable pub isSound : Book → Bool
 isSound book =
     eqb (length (book .lines)) shippers
+    && (keepRules (book .figures)
     && (areLinesSound book
-    && (leb (commonsUsed book) (commons book) && ltb (book .last) shippers))
+    && (leb (commonsUsed book) (commons book) && ltb (book .last) shippers)))

@@ -5,13 +5,15 @@ ghost use Rattle.refusals.specs.Told.{fine};
 ghost use Rattle.refusals.specs.Verdict.{faultOf};
 ghost use Rattle.octets.specs.Lists.{isOneOf};
 ghost use Rattle.book.specs.Answers.{toldTake};
-ghost use Rattle.book.specs.Calls.{callFault, entryFault, requestFault, withdrawalFault, nextTurn, handedOut, takeOf};
+ghost use Rattle.book.specs.Calls.{callFault, entryFault, requestFault, withdrawalFault, nextTurn, handedOut, takeOf, settingFault};
 ghost use Rattle.book.specs.Figures.{waitingOf};
 ghost use Rattle.book.specs.Sound.{isSound};
 use crate::Book;
+use crate::Figures;
 use crate::Handout;
 use crate::SHIPPERS;
 use crate::queue;
+use crate::rules;
 use crate::sound;
 use refusals::Refusal;
 use refusals::Verdict;
@@ -48,13 +50,17 @@ fn judge_entry(book: Book, shipper: u8, number: u32) -> Verdict
 {
     let waits = is_waiting(book, shipper, number);
     let used = sound::count_commons_used(book);
+    let figures = book.figures;
+    let commons = rules::count_commons(figures);
     let at = shipper as usize;
     let count = book.lines[at].count;
-    let room = (count < Book::RESERVE) | (used < Book::COMMONS);
+    let reserve = figures.reserves[at] as usize;
+    let ceiling = figures.ceilings[at] as usize;
+    let room = (count < reserve) | (used < commons);
     or_else(
         demand(!waits, Refusal::AlreadyWaiting),
         or_else(
-            demand(count < Book::CEILING, Refusal::CeilingReached),
+            demand(count < ceiling, Refusal::CeilingReached),
             demand(room, Refusal::CommonsFull),
         ),
     )
@@ -108,5 +114,18 @@ pub(crate) fn judge_take(book: Book) -> Handout
         hand_out(book)
     } else {
         Handout::Refused(Refusal::BookNotSound)
+    }
+}
+
+pub(crate) fn judge_setting(book: Book, figures: Figures) -> Verdict
+    ensures { λ r. ⌜ faultOf r ≡ settingFault book figures ⌝ }
+{
+    if sound::is_sound(book) {
+        or_else(
+            demand(sound::is_empty(book), Refusal::BookNotEmpty),
+            demand(rules::keep_rules(figures), Refusal::FiguresOutside),
+        )
+    } else {
+        Verdict::Refused(Refusal::BookNotSound)
     }
 }

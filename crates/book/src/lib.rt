@@ -1,12 +1,12 @@
-// The book of waiting requests (01, 'The book'), by value: it goes in and comes back with each call,
+// The book of waiting requests (01, 'The book'; 02, 'Places by agreement'), by value: it goes in and comes back with each call,
 // and a refusal hands the same book back. Its answers stand beside it, since a book holds arrays.
 ghost use mathlib.Core.Path.{_≡_};
 ghost use mathlib.Core.Bool.{true};
 ghost use Prim.Native.Nat.{_<_};
 ghost use Rattle.refusals.specs.Told.{fine};
 ghost use Rattle.octets.specs.Lists.{isOneOf};
-ghost use Rattle.book.specs.Answers.{toldChange, toldTake};
-ghost use Rattle.book.specs.Calls.{requestFault, requestOf, entered, afterRequest, withdrawalOf, removed, afterWithdrawal, takeOf, afterTake};
+ghost use Rattle.book.specs.Answers.{toldChange, toldTake, toldCommons};
+ghost use Rattle.book.specs.Calls.{requestFault, requestOf, entered, afterRequest, withdrawalOf, removed, afterWithdrawal, takeOf, afterTake, agreed, settingOf, afterSetting, commonsOf};
 ghost use Rattle.book.specs.Figures.{emptyBook, waitingOf};
 ghost use Rattle.book.specs.Sound.{isSound};
 use refusals::Refusal;
@@ -14,6 +14,7 @@ use refusals::Verdict;
 
 mod judge;
 mod queue;
+mod rules;
 mod sound;
 
 pub use sound::is_sound;
@@ -34,23 +35,29 @@ impl Line {
     pub const WIDTH: usize = 16;
 }
 
-// The lines of shippers 0 to 3, and the shipper whose request was handed out last.
+// Reserves and ceilings by agreement, those of shippers 0 to 3.
+#[repr(C)]
+pub struct Figures {
+    pub reserves: [u8; 4],
+    pub ceilings: [u8; 4],
+}
+
+// The lines of shippers 0 to 3, the shipper whose request was handed out last, and the figures agreed.
 #[repr(C)]
 pub struct Book {
     pub lines: [Line; 4],
     pub last: u8,
+    pub figures: Figures,
 }
 
 impl Book {
     // For all shippers together.
     pub const PLACES: usize = 16;
 
-    pub const RESERVE: usize = 2;
+    // Of each shipper, as long as nothing else is agreed.
+    pub const RESERVE: u8 = 2;
 
-    pub const CEILING: usize = 8;
-
-    // The places that are nobody's reserve.
-    pub const COMMONS: usize = Book::PLACES - 4 * Book::RESERVE;
+    pub const CEILING: u8 = 8;
 
     // A new book has 3 as last served: the first turn is shipper 0's.
     pub fn empty() -> Book
@@ -60,14 +67,19 @@ impl Book {
             numbers: [0; Line::WIDTH],
             count: 0,
         };
+        let figures = Figures {
+            reserves: [Book::RESERVE; 4],
+            ceilings: [Book::CEILING; 4],
+        };
         Book {
             lines: [line; 4],
             last: 3,
+            figures,
         }
     }
 }
 
-// What a request and a withdrawal are answered.
+// What a request, a withdrawal and a setting are answered.
 pub enum Change {
     Made,
     Refused(Refusal),
@@ -87,6 +99,12 @@ pub enum Handout {
 pub struct Taken {
     pub book: Book,
     pub answer: Handout,
+}
+
+pub enum Commons {
+    // The places that are nobody's reserve, and how many of them are used.
+    Shared(usize, usize),
+    Refused(Refusal),
 }
 
 // The book with the request waiting behind those of its own shipper.
@@ -162,5 +180,45 @@ pub fn take(book: Book) -> Taken
             answer,
         },
         Handout::Refused(_) => Taken { book, answer },
+    }
+}
+
+// The book with other figures: the turn order is kept.
+fn agree(book: Book, figures: Figures) -> Book
+    ensures { λ r. ⌜ r ≡ agreed book figures ⌝ }
+{
+    let mut next = book;
+    next.figures = figures;
+    next
+}
+
+// Figures are set on an empty book.
+pub fn set_figures(book: Book, figures: Figures) -> Changed
+    ensures { λ r. ⌜ (toldChange (r .answer) ≡ settingOf book figures) × (r .book ≡ afterSetting book figures) ⌝ }
+{
+    let verdict = judge::judge_setting(book, figures);
+    match verdict {
+        Verdict::Fine => Changed {
+            book: agree(book, figures),
+            answer: Change::Made,
+        },
+        Verdict::Refused(refusal) => Changed {
+            book,
+            answer: Change::Refused(refusal),
+        },
+    }
+}
+
+// The shared places, and how many of them are used.
+pub fn tell_commons(book: Book) -> Commons
+    ensures { λ r. ⌜ toldCommons r ≡ commonsOf book ⌝ }
+{
+    if sound::is_sound(book) {
+        Commons::Shared(
+            rules::count_commons(book.figures),
+            sound::count_commons_used(book),
+        )
+    } else {
+        Commons::Refused(Refusal::BookNotSound)
     }
 }

@@ -1,5 +1,5 @@
 -- What the walks share: a book behind a `&mut` is opened, with what is known of the book there, and closed at another
--- book; and what a shipper and a number own beside it.
+-- book; and what a shipper and a number, or figures, own beside it.
 use mathlib.Core.Path.{refl}
 use Prim.Native.Nat.{ℕ, _<_, _^_}
 use mathlib.Core.List.{[], _∷_, List}
@@ -22,12 +22,19 @@ use denote.Steps.{opens, closes, owned, peeks, nothing}
 use denote.Struct.Steps.{spelt}
 use denote.Struct.Laws as LL
 use Rattle.book.specs.declared.Book.{Book}
+use Rattle.book.specs.declared.Figures.{Figures}
 use Rattle.book.proofs.Book as T
 use Rattle.book.proofs.Book.Laws as T′
+use Rattle.book.proofs.Figures as F
+use Rattle.book.proofs.Figures.Laws as F′
 
 -- the machine's value of a book
 abbrev pub book-val : Book → Val
 book-val = LL.val T.the-type T′.the-laws
+
+-- and of figures
+abbrev pub figures-val : Figures → Val
+figures-val = LL.val F.the-type F′.the-laws
 
 module _ {M : Type 1} {𝓤 : URA M} {H : Heap 𝓤} {A : Atoms 𝓤} {K : Type 0} {W : Given 𝓤 H A} {Γ : List (Item 𝓤)} {G : Goal 𝓤 H} where
   -- [obs; the borrow; the token] to [the book's cell; what the book owns; the open borrow; obs; auth]
@@ -50,6 +57,10 @@ module _ {M : Type 1} {𝓤 : URA M} {H : Heap 𝓤} {A : Atoms 𝓤} {K : Type 
   pub numbers : K → (s n : ℕ) → s < 2 ^ 8 → n < 2 ^ 32 → Step K W (‵ (fsep (u8 .own s (vint w8 s ∷ [])) (fsep (u32 .own n (vint w32 n ∷ [])) ftrue)) ∷ Γ) G Γ G
   numbers t s n s-fits n-fits =
       step (λ k. nothing t $ owned t u32 (Is u32) (uint-makes 𝓤 H A W w32) n _ (refl, n-fits) $ fjoin t $ owned t u8 (Is u8) (uint-makes 𝓤 H A W w8) s _ (refl, s-fits) $ fjoin t $ k)
+
+  -- what figures own
+  pub figures : K → (f : Figures) → Is F.the-row f (figures-val f ∷ []) → Step K W (‵ (fsep (F.the-row .own f (figures-val f ∷ [])) ftrue) ∷ Γ) G Γ G
+  figures t f are = step (λ k. nothing t $ owned t F.the-row (Is F.the-row) (LL.makes F.the-type F′.the-plain 𝓤 H A) f _ are $ fjoin t $ k)
 
 -- what holds of itself is beside whatever else is to be shown
 pub holds : {M : Type 1} {𝓤 : URA M} {H : Heap 𝓤} {A : Atoms 𝓤} {K : Type 0} {W : Given 𝓤 H A} {Γ : List (Item 𝓤)} → K → {P Q : SProp 𝓤} → ent 𝓤 (emp 𝓤) Q → Step K W Γ (prop P) Γ (prop (sep 𝓤 P Q))

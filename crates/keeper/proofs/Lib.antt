@@ -2,3 +2,4 @@ pub mod Lent
 pub mod Beside
 pub mod Changing
 pub mod Taking
+pub mod Setting

@@ -1,9 +1,9 @@
--- 01, 'Numbers given back': the table, a line for each of its rows.
+-- 01, 'Numbers given back', with the rows that 02 adds: the table, a line for each of its rows.
 use mathlib.Core.List.{List, [], _∷_}
 use Prim.Native.Nat.{ℕ}
 use Rattle.refusals.specs.declared.GivenBack.{GivenBack}
 use Rattle.refusals.specs.declared.Refusal.{Refusal}
-use Rattle.refusals.specs.declared.Refusal.the-variants.{Records, UnnamedByte, ProverSetting, KFactorOrLimit, RecordField, PassRule, IndicatedVolume, RunFactor, NoGroup, TicketField, ClosingBelowOpening, ReadingNotFinite, ReadingRange, ReportBuffer, NotReport, BookNotSound, UnknownShipper, NumberZero, AlreadyWaiting, CeilingReached, CommonsFull, NotWaiting, NothingToTake}
+use Rattle.refusals.specs.declared.Refusal.the-variants.{Records, UnnamedByte, ProverSetting, KFactorOrLimit, RecordField, PassRule, IndicatedVolume, RunFactor, NoGroup, TicketField, ClosingBelowOpening, ReadingNotFinite, ReadingRange, ReportBuffer, NotReport, BookNotSound, UnknownShipper, NumberZero, AlreadyWaiting, CeilingReached, CommonsFull, NotWaiting, NothingToTake, BookNotEmpty, FiguresOutside}
 
 -- a row: its number, and '(*) carries the record, from 1'
 pub data Row : Type 0 where
@@ -34,6 +34,8 @@ rowOf CeilingReached = plain 24
 rowOf CommonsFull = plain 25
 rowOf NotWaiting = plain 26
 rowOf NothingToTake = plain 27
+rowOf BookNotEmpty = plain 30
+rowOf FiguresOutside = plain 31
 
 -- the row's number
 abbrev pub numberIn : Row → ℕ
@@ -60,4 +62,5 @@ abbrev pub cases : ℕ → List Refusal
 cases at =
     Records ∷ UnnamedByte at ∷ ProverSetting ∷ KFactorOrLimit ∷ RecordField at ∷ PassRule at ∷ IndicatedVolume at ∷ RunFactor at
     ∷ NoGroup ∷ TicketField ∷ ClosingBelowOpening ∷ ReadingNotFinite ∷ ReadingRange ∷ ReportBuffer ∷ NotReport ∷ BookNotSound
-    ∷ UnknownShipper ∷ NumberZero ∷ AlreadyWaiting ∷ CeilingReached ∷ CommonsFull ∷ NotWaiting ∷ NothingToTake ∷ []
+    ∷ UnknownShipper ∷ NumberZero ∷ AlreadyWaiting ∷ CeilingReached ∷ CommonsFull ∷ NotWaiting ∷ NothingToTake ∷ BookNotEmpty
+    ∷ FiguresOutside ∷ []

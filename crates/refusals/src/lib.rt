@@ -46,12 +46,16 @@ pub enum Refusal {
     AlreadyWaiting,
     // 24: ceiling reached
     CeilingReached,
-    // 25: has 2 or more and commons full
+    // 25: has its reserve or more and commons full
     CommonsFull,
     // 26: withdrawn number not waiting
     NotWaiting,
     // 27: nothing to take
     NothingToTake,
+    // 30: setting a book that isn't empty
+    BookNotEmpty,
+    // 31: figures outside the rules
+    FiguresOutside,
 }
 
 // What judging finds: nothing, or why the caller is refused.
@@ -94,6 +98,8 @@ pub fn give_back(refusal: Refusal) -> GivenBack
         Refusal::CommonsFull => GivenBack { number: 25, at: 0 },
         Refusal::NotWaiting => GivenBack { number: 26, at: 0 },
         Refusal::NothingToTake => GivenBack { number: 27, at: 0 },
+        Refusal::BookNotEmpty => GivenBack { number: 30, at: 0 },
+        Refusal::FiguresOutside => GivenBack { number: 31, at: 0 },
     }
 }
 

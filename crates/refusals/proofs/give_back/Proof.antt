@@ -13,7 +13,7 @@ give-back-spec =
     tie.close
     (tie.spec (search needs) (search needs) (search needs) (search needs) (search needs) (search needs) (search needs) (search needs) (search needs)
     (search needs) (search needs) (search needs) (search needs) (search needs) (search needs) (search needs) (search needs) (search needs)
-    (search needs) (search needs) (search needs) (search needs) (search needs) (λ c. told (c .enum-told .given .1))
+    (search needs) (search needs) (search needs) (search needs) (search needs) (search needs) (search needs) (λ c. told (c .enum-told .given .1))
     (λ c. told (c .before .refusal .given .1)) (λ c. told (c .enum-told2 .given .1)) (λ c. told (c .enum-told3 .given .1))
     (λ c. told (c .before .refusal2 .given .1)) (λ c. told (c .before .refusal3 .given .1)) (λ c. told (c .before .refusal4 .given .1))
     (λ c. told (c .before .refusal5 .given .1)) (λ c. told (c .enum-told4 .given .1)) (λ c. told (c .enum-told5 .given .1))
@@ -21,4 +21,4 @@ give-back-spec =
     (λ c. told (c .enum-told9 .given .1)) (λ c. told (c .enum-told10 .given .1)) (λ c. told (c .enum-told11 .given .1))
     (λ c. told (c .enum-told12 .given .1)) (λ c. told (c .enum-told13 .given .1)) (λ c. told (c .enum-told14 .given .1))
     (λ c. told (c .enum-told15 .given .1)) (λ c. told (c .enum-told16 .given .1)) (λ c. told (c .enum-told17 .given .1))
-    (λ c. told (c .enum-told18 .given .1)))
+    (λ c. told (c .enum-told18 .given .1)) (λ c. told (c .enum-told19 .given .1)) (λ c. told (c .enum-told20 .given .1)))
