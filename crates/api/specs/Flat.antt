@@ -16,7 +16,7 @@ use Rattle.draw.specs.declared.FillFigures.{FillFigures}
 use Rattle.draw.specs.declared.BaseVolume.{BaseVolume}
 use Rattle.ticket.specs.declared.Volumes.{Volumes}
 use Rattle.live.specs.Live.{Values}
-use Rattle.book.specs.Answers.{Handed}
+use Rattle.book.specs.Answers.{Handed, Shared}
 use Rattle.api.specs.declared.corrections.EndakuroFactor.{EndakuroFactor}
 use Rattle.api.specs.declared.quotients.EndakuroQuotient.{EndakuroQuotient}
 use Rattle.api.specs.declared.reports.EndakuroReport.{EndakuroReport}
@@ -30,6 +30,7 @@ use Rattle.api.specs.declared.readings.EndakuroLive.{EndakuroLive}
 use Rattle.api.specs.declared.panel.EndakuroPanel.{EndakuroPanel}
 use Rattle.api.specs.declared.books.EndakuroDone.{EndakuroDone}
 use Rattle.api.specs.declared.books.EndakuroTaken.{EndakuroTaken}
+use Rattle.api.specs.declared.books.EndakuroCommons.{EndakuroCommons}
 
 -- the paper's number; 0 when done
 abbrev pub numberIn : {A : Type 0} → Told A → ℕ
@@ -188,6 +189,16 @@ takenWith number at h = record { number = number; at = at; request = h .number; 
 
 unfoldable pub flatTaken : Told Handed → EndakuroTaken
 flatTaken t = takenWith (numberIn t) (recordIn t) (valuesIn noHandout t)
+
+-- the shared places, and how many are used
+abbrev pub noCommons : Shared
+noCommons = record { commons = 0; used = 0 }
+
+abbrev pub commonsWith : ℕ → ℕ → Shared → EndakuroCommons
+commonsWith number at s = record { number = number; at = at; commons = s .commons; used = s .used }
+
+unfoldable pub flatCommons : Told Shared → EndakuroCommons
+flatCommons t = commonsWith (numberIn t) (recordIn t) (valuesIn noCommons t)
 
 -- a rounded quotient, or why there is none; the paper has no number for these
 abbrev pub flatQuotient : Quotient → EndakuroQuotient

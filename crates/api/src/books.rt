@@ -1,12 +1,14 @@
-// 01, 'The book', for C: the controller keeps one book in its own memory and changes it in place.
+// 01, 'The book', and 02, 'Places by agreement', for C: the controller keeps one book in its own memory and changes it in place.
 ghost use mathlib.Core.Path.{_≡_};
-ghost use Rattle.book.specs.Answers.{toldChange, toldTake};
-ghost use Rattle.book.specs.Calls.{requestOf, afterRequest, withdrawalOf, afterWithdrawal, takeOf, afterTake};
+ghost use Rattle.book.specs.Answers.{toldChange, toldTake, toldCommons};
+ghost use Rattle.book.specs.Calls.{requestOf, afterRequest, withdrawalOf, afterWithdrawal, takeOf, afterTake, settingOf, afterSetting, commonsOf};
 ghost use Rattle.book.specs.Figures.{emptyBook};
 ghost use Rattle.book.specs.Sound.{isSound};
-ghost use Rattle.api.specs.Flat.{flatDone, flatTaken};
+ghost use Rattle.api.specs.Flat.{flatDone, flatTaken, flatCommons};
 use book::Book;
 use book::Change;
+use book::Commons;
+use book::Figures;
 use book::Handout;
 
 #[repr(C)]
@@ -24,7 +26,16 @@ pub struct EndakuroTaken {
     pub shipper: u8,
 }
 
-// The book left by a request or a withdrawal, and its answer.
+// The shared places, and how many of them are used.
+#[repr(C)]
+pub struct EndakuroCommons {
+    pub number: u16,
+    pub at: u16,
+    pub commons: usize,
+    pub used: usize,
+}
+
+// The book left by a request, a withdrawal or a setting, and its answer.
 struct Changed {
     book: Book,
     answer: EndakuroDone,
@@ -73,6 +84,28 @@ fn flatten_take(answer: Handout) -> EndakuroTaken
     }
 }
 
+fn flatten_commons(answer: Commons) -> EndakuroCommons
+    ensures { λ r. ⌜ r ≡ flatCommons (toldCommons answer) ⌝ }
+{
+    match answer {
+        Commons::Shared(commons, used) => EndakuroCommons {
+            number: 0,
+            at: 0,
+            commons,
+            used,
+        },
+        Commons::Refused(refusal) => {
+            let given = refusals::give_back(refusal);
+            EndakuroCommons {
+                number: given.number as u16,
+                at: given.at,
+                commons: 0,
+                used: 0,
+            }
+        }
+    }
+}
+
 fn flatten_changed(done: book::Changed) -> Changed
     ensures { λ r. ⌜ (r .answer ≡ flatDone (toldChange (done .answer))) × (r .book ≡ done .book) ⌝ }
 {
@@ -106,6 +139,18 @@ fn serve(book: Book) -> Served
         book: left,
         answer: flatten_take(handout),
     }
+}
+
+fn agree(book: Book, figures: Figures) -> Changed
+    ensures { λ r. ⌜ (r .answer ≡ flatDone (settingOf book figures)) × (r .book ≡ afterSetting book figures) ⌝ }
+{
+    flatten_changed(book::set_figures(book, figures))
+}
+
+fn share(book: Book) -> EndakuroCommons
+    ensures { λ r. ⌜ r ≡ flatCommons (commonsOf book) ⌝ }
+{
+    flatten_commons(book::tell_commons(book))
 }
 
 fn judge(book: Book) -> bool
@@ -150,6 +195,24 @@ pub extern "C" fn endakuro_take(kept: &mut Book) -> EndakuroTaken
     let done = serve(*kept);
     *kept = done.book;
     done.answer
+}
+
+// Figures are set on an empty book.
+#[no_mangle]
+pub extern "C" fn endakuro_set_figures(kept: &mut Book, figures: Figures) -> EndakuroDone
+    ensures { λ r. ⌜ (r ≡ flatDone (settingOf (now (kept .entry)) figures)) × (now (kept .exit) ≡ afterSetting (now (kept .entry)) figures) ⌝ }
+{
+    let done = agree(*kept, figures);
+    *kept = done.book;
+    done.answer
+}
+
+// The shared places, and how many of them are used.
+#[no_mangle]
+pub extern "C" fn endakuro_commons(kept: &Book) -> EndakuroCommons
+    ensures { λ r. ⌜ r ≡ flatCommons (commonsOf (now (kept .entry))) ⌝ }
+{
+    share(*kept)
 }
 
 // Whether a book offered from outside is sound.
