@@ -1,12 +1,15 @@
-"""The book of waiting requests (01, The book), by value: a call gives the book that comes back."""
+"""The book of waiting requests (01, The book; 02, places by agreement), by value: a call gives the
+book that comes back."""
 
 from collections import namedtuple
 
 from refusals import (
     ALREADY_WAITING,
+    BOOK_NOT_EMPTY,
     BOOK_NOT_SOUND,
     CEILING_REACHED,
     COMMONS_FULL,
+    FIGURES_OUTSIDE_RULES,
     NOT_WAITING,
     NOTHING_TO_TAKE,
     NUMBER_ZERO,
@@ -15,22 +18,41 @@ from refusals import (
 )
 
 SHIPPERS = 4
-# "The figures places 16, reserve 2, ceiling 8 and commons 8 belong to the book"
 PLACES = 16
-RESERVE = 2
-CEILING = 8
-COMMONS = 8
+# 02: "reserve 1 to 13"
+RESERVE = range(1, 14)
+
+# Four of each, shipper 0's first.
+Figures = namedtuple("Figures", "reserves ceilings")
 
 # `lines` holds each shipper's sixteen places, the waiting numbers first, oldest first.
-Book = namedtuple("Book", "last counts lines")
+Book = namedtuple("Book", "last counts figures lines")
+
+# 02: "The default is 2 and 8 for all"
+DEFAULT = Figures((2,) * SHIPPERS, (8,) * SHIPPERS)
 
 # "a new book has 3 as last served"
-EMPTY = Book(3, (0,) * SHIPPERS, ((0,) * PLACES,) * SHIPPERS)
+EMPTY = Book(3, (0,) * SHIPPERS, DEFAULT, ((0,) * PLACES,) * SHIPPERS)
 
 
-def commons_used(counts):
-    # "Commons used = sum over shippers of what each has waiting beyond 2"
-    return sum(max(count - RESERVE, 0) for count in counts)
+def within_rules(figures):
+    # 02: "reserve 1 to 13, ceiling from that reserve to 16, reserves adding up to at most 16"
+    return (
+        all(reserve in RESERVE for reserve in figures.reserves)
+        and all(reserve <= ceiling <= PLACES for reserve, ceiling in zip(*figures))
+        and sum(figures.reserves) <= PLACES
+    )
+
+
+def commons(book):
+    # 02: "commons the rest of 16"
+    return PLACES - sum(book.figures.reserves)
+
+
+def commons_used(book):
+    # "Commons used = sum over shippers of what each has waiting beyond" its own reserve
+    reserves = book.figures.reserves
+    return sum(max(count - reserve, 0) for count, reserve in zip(book.counts, reserves))
 
 
 def line_is_sound(count, line):
@@ -40,11 +62,13 @@ def line_is_sound(count, line):
 
 
 def is_sound(book):
-    # "sound when counts and commons keep these figures, ... and the last served is 0 to 3"
+    # "sound when counts and commons keep these figures, ... and the last served is 0 to 3";
+    # 02: "A book with figures outside these rules isn't sound"
     return (
         book.last < SHIPPERS
-        and max(book.counts) <= CEILING
-        and commons_used(book.counts) <= COMMONS
+        and within_rules(book.figures)
+        and all(count <= ceiling for count, ceiling in zip(book.counts, book.figures.ceilings))
+        and commons_used(book) <= commons(book)
         and all(map(line_is_sound, book.counts, book.lines))
     )
 
@@ -71,7 +95,7 @@ def with_line(book, shipper, numbers, last):
     counts, lines = list(book.counts), list(book.lines)
     counts[shipper] = len(numbers)
     lines[shipper] = numbers + (0,) * (PLACES - len(numbers))
-    return Book(last, tuple(counts), tuple(lines))
+    return book._replace(last=last, counts=tuple(counts), lines=tuple(lines))
 
 
 def request(book, shipper, number):
@@ -80,10 +104,10 @@ def request(book, shipper, number):
     numbers = waiting(book, shipper)
     if number in numbers:
         raise Refused(ALREADY_WAITING)
-    if len(numbers) >= CEILING:
+    # 02: 24 and 25 "read with each shipper's own two figures and the book's own commons"
+    if len(numbers) >= book.figures.ceilings[shipper]:
         raise Refused(CEILING_REACHED)
-    # "has 2 or more and commons full"
-    if len(numbers) >= RESERVE and commons_used(book.counts) >= COMMONS:
+    if len(numbers) >= book.figures.reserves[shipper] and commons_used(book) >= commons(book):
         raise Refused(COMMONS_FULL)
     return with_line(book, shipper, numbers + (number,), book.last)
 
@@ -109,3 +133,14 @@ def take(book):
         if numbers:
             return shipper, numbers[0], with_line(book, shipper, numbers[1:], shipper)
     raise Refused(NOTHING_TO_TAKE)
+
+
+def set_figures(book, figures):
+    """02: "Figures are set on an empty book only, and the turn order is kept"; "30 for setting a
+    book that isn't empty, 31 for figures outside the rules, after 20"."""
+    judge_book(book)
+    if any(book.counts):
+        raise Refused(BOOK_NOT_EMPTY)
+    if not within_rules(figures):
+        raise Refused(FIGURES_OUTSIDE_RULES)
+    return book._replace(figures=figures)

@@ -199,6 +199,11 @@ def answer_read(buffer):
 # The entries of the kept book: the book that comes back, then the answer.
 
 
+def four_and_four(operands):
+    """The figures as a line has them: four reserves, then four ceilings."""
+    return book.Figures(operands[: book.SHIPPERS], operands[book.SHIPPERS :])
+
+
 def answer_request(kept, shipper, number):
     return book.request(kept, shipper, number), ok()
 
@@ -221,13 +226,23 @@ def answer_book(kept):
     return kept, ok(*values)
 
 
+def answer_set(kept, *figures):
+    return book.set_figures(kept, four_and_four(figures)), ok()
+
+
+def answer_figures(kept):
+    book.judge_book(kept)
+    reserves, ceilings = kept.figures
+    return kept, ok(*reserves, *ceilings, book.commons(kept), book.commons_used(kept))
+
+
 def answer_load(_, last, *operands):
-    counts, numbers = operands[: book.SHIPPERS], operands[book.SHIPPERS :]
+    counts, figures, numbers = operands[:4], operands[4:12], operands[12:]
     lines = tuple(
         numbers[shipper * book.PLACES : (shipper + 1) * book.PLACES]
         for shipper in range(book.SHIPPERS)
     )
-    return book.Book(last, counts, lines), ok()
+    return book.Book(last, counts, four_and_four(figures), lines), ok()
 
 
 def answer_empty(_):
@@ -260,7 +275,9 @@ BOOK_ENTRIES = {
     b"withdraw": ((u8, u32), answer_withdraw),
     b"take": ((), answer_take),
     b"book": ((), answer_book),
-    b"load": ((u8, *(u8,) * 4, *(u32,) * 64), answer_load),
+    b"set": ((u8,) * 8, answer_set),
+    b"figures": ((), answer_figures),
+    b"load": ((u8, *(u8,) * 12, *(u32,) * 64), answer_load),
     b"empty": ((), answer_empty),
 }
 

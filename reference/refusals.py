@@ -1,4 +1,4 @@
-"""The numbers given back (01, Numbers given back)."""
+"""The numbers given back (01, Numbers given back; 02 adds 30 and 31)."""
 
 
 class Refused(Exception):
@@ -33,3 +33,5 @@ CEILING_REACHED = 24
 COMMONS_FULL = 25
 NOT_WAITING = 26
 NOTHING_TO_TAKE = 27
+BOOK_NOT_EMPTY = 30
+FIGURES_OUTSIDE_RULES = 31
