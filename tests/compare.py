@@ -5,8 +5,8 @@ Run: python3 tests/compare.py --program CMD [--lines N] [--seed S] [--told DIR]
      python3 tests/compare.py --ahead DIR     the reference's answers alone, kept for --told DIR
 
 Ends with 0 exactly when no answer differs and every entry and number was reached, each place where
-an equilibrium pressure can stand, every kind of bidirectional draw, and all that the panel can be
-shown.
+an equilibrium pressure can stand, every kind of bidirectional draw and of book call, and all that
+the panel can be shown.
 """
 
 import argparse
@@ -16,6 +16,7 @@ from concurrent.futures import ThreadPoolExecutor
 from itertools import islice
 
 import draw_kinds
+from book_kinds import BookKinds
 from cases import cases
 from cases.grammar import NAMES
 from cases.shapes import Draw
@@ -53,6 +54,8 @@ REACHES = {
     "withdraw": (OK, 20, 21, 22, 26),
     "take": (OK, 20, 27),
     "book": (OK, 20),
+    "set": (OK, 20, 30, 31),
+    "figures": (OK, 20),
     "load": (OK,),
     "empty": (OK,),
 }
@@ -93,6 +96,7 @@ class Comparison:
         self.reached = Counter()
         self.stood = Counter()
         self.drawn = Counter()
+        self.booked = BookKinds()
         self.shown = Shown()
         self.differences = 0
 
@@ -106,6 +110,7 @@ class Comparison:
         asked = [(at, line) for at, line in enumerate(lines) if not is_silent(line)]
         if len(reference) != len(asked):
             raise Stopped(f"the reference gave {len(reference)} answers to {len(asked)} lines")
+        self.booked.begin()
         for place, (at, line) in enumerate(asked):
             expected = reference[place]
             self.reach(line, expected)
@@ -123,6 +128,7 @@ class Comparison:
     def reach(self, line, answer):
         entry, what = entry_of(line), outcome(answer)
         self.reached[entry, what] += 1
+        self.booked.take(entry, line, what, answer)
         self.shown.take(entry, line, answer)
         if what != BAD:
             for side, where in standings(entry, line, record_of(answer)):
@@ -166,6 +172,7 @@ class Comparison:
             for what, kind in draw_kinds.wanted(entry)
             if not self.drawn[entry, what, kind]
         ]
+        missing += self.booked.missing()
         missing += self.shown.missing()
         return missing
 

@@ -1,5 +1,5 @@
-"""The figures to hold against (01), 000's propane and 003's bidirectional prover (02): each through
-the line program.
+"""The figures to hold against (01), 000's propane, 003's bidirectional prover and the ends of what
+shippers may agree on (02): each through the line program.
 
 Run: python3 tests/figures.py [--program CMD]
 """
@@ -115,6 +115,34 @@ def book_figures():
         yield "a take", line("take"), f"ok {shipper} {number}"
 
 
+def agreement_figures():
+    """02's ends: "reserve 1 to 13, ceiling from that reserve to 16, reserves adding up to at most
+    16, and commons the rest of 16"."""
+    yield "a new book", line("empty"), OK
+    yield "its figures", line("figures"), "ok 2 2 2 2 8 8 8 8 8 0"
+    yield "a reserve of 13", line("set", 1, 13, 1, 1, 16, 16, 16, 16), OK
+    yield "no commons beside it", line("figures"), "ok 1 13 1 1 16 16 16 16 0 0"
+    yield "ceilings at the reserves", line("set", 1, 1, 1, 1, 1, 1, 1, 1), OK
+    yield "12 commons", line("figures"), "ok 1 1 1 1 1 1 1 1 12 0"
+    for name, figures in (
+        ("a reserve of 0", (0, 1, 1, 1, 8, 8, 8, 8)),
+        ("a reserve of 14", (14, 1, 1, 1, 16, 8, 8, 8)),
+        ("a ceiling below its reserve", (3, 1, 1, 1, 2, 8, 8, 8)),
+        ("a ceiling of 17", (1, 1, 1, 1, 8, 8, 8, 17)),
+        ("reserves of 17", (5, 4, 4, 4, 8, 8, 8, 8)),
+    ):
+        yield name, line("set", *figures), "refused 31 0"
+    yield "reserves of 16", line("set", 4, 4, 4, 4, 8, 4, 4, 4), OK
+    for number in range(1, 5):
+        yield f"request {number} of 4 reserved", line("request", 0, number), OK
+    yield "its fifth, without commons", line("request", 0, 5), "refused 25 0"
+    for number in range(1, 5):
+        yield f"shipper 1's request {number}", line("request", 1, number), OK
+    yield "its fifth, at its ceiling", line("request", 1, 5), "refused 24 0"
+    yield "someone waits", line("set", 2, 2, 2, 2, 8, 8, 8, 8), "refused 30 0"
+    yield "the figures are those of before", line("figures"), "ok 4 4 4 4 8 4 4 4 0 0"
+
+
 PARTS = (
     factor_figures,
     run_figure,
@@ -125,6 +153,7 @@ PARTS = (
     ticket_figure,
     live_figures,
     book_figures,
+    agreement_figures,
 )
 
 

@@ -4,6 +4,8 @@ import random
 from itertools import chain, islice
 
 from . import (
+    agreements,
+    book_days,
     books,
     draws,
     factors,
@@ -30,6 +32,7 @@ AIMED = (
     books,
     grammar,
     trips,
+    agreements,
 )
 
 
@@ -56,7 +59,7 @@ def by_chance(rng):
     while True:
         for part in rng.choices(modules, weights, k=150):
             yield part.by_chance(rng)
-        yield from books.by_chance(rng)
+        yield from book_days.by_chance(rng)
 
 
 def cases(seed, count):

@@ -1,21 +1,7 @@
-"""Cases of the book: `request`, `withdraw`, `take`, `book`, `load`, `empty`."""
+"""Cases of a new book's figures: `request`, `withdraw`, `take`, `book`, `load`, `empty`."""
 
+from .book_shapes import SHIPPERS, calls, load, waiting
 from .shapes import line
-
-SHIPPERS = 4
-PLACES = 16
-NUMBERS = (1, 2, 2**31, 2**32 - 1)
-
-
-def load(last, lines, counts=None):
-    """A book by its waiting numbers; counts given apart may disagree with them."""
-    counts = counts or [len(numbers) for numbers in lines]
-    places = [number for numbers in lines for number in (*numbers, *[0] * (PLACES - len(numbers)))]
-    return line("load", last, *counts, *places)
-
-
-def waiting(counts):
-    return [list(range(1, count + 1)) for count in counts]
 
 
 def aimed(rng):
@@ -84,17 +70,6 @@ def turns():
             for _ in range(4):
                 yield line("take")
             yield line("book")
-
-
-def calls(rng):
-    """Each call once, the refused pairs among them."""
-    yield line("request", rng.randrange(SHIPPERS), rng.choice((1, 3, 99)))
-    yield line("request", rng.choice((4, 255)), rng.choice((0, 1)))
-    yield line("request", rng.randrange(SHIPPERS), 0)
-    yield line("withdraw", rng.randrange(SHIPPERS), rng.choice((1, 2, 99)))
-    yield line("withdraw", 4, 0)
-    yield line("take")
-    yield line("book")
 
 
 def sound_books(rng):
@@ -173,38 +148,3 @@ def unsound_books(rng):
                 lines[0][1] = number
                 yield load(last, lines)
                 yield from calls(rng)
-
-
-def by_chance(rng):
-    """A stretch of a day at the book, long enough to fill it and to run it dry."""
-    if rng.random() < 0.3:
-        yield line("empty")
-    pace = rng.random()
-    numbers = rng.choice((6, 12, 40))
-    sent = [(0, 1)]
-    for _ in range(rng.randint(10, 60)):
-        chance = rng.random()
-        if chance < 0.35 + 0.3 * pace:
-            shipper = rng.choice((0, 0, 0, 1, 2, 3)) if rng.random() < 0.97 else rng.randint(0, 255)
-            number = rng.randint(1, numbers) if rng.random() < 0.95 else rng.choice((0, *NUMBERS))
-            sent.append((shipper, number))
-            yield line("request", shipper, number)
-        elif chance < 0.45 + 0.3 * pace:
-            yield line("withdraw", *rng.choice(sent[-8:]))
-        elif chance < 0.5 + 0.3 * pace:
-            yield line("withdraw", rng.randrange(SHIPPERS), rng.randint(0, numbers))
-        elif chance < 0.95:
-            yield line("take")
-        else:
-            yield line("book")
-    if rng.random() < 0.1:
-        yield by_chance_load(rng)
-        yield from calls(rng)
-        yield line("empty")
-    yield line("book")
-
-
-def by_chance_load(rng):
-    counts = rng.choices((0, 1, 2, 2, 3, 4, 5, 8), k=SHIPPERS)
-    lines = [rng.sample(range(1, 30), count) for count in counts]
-    return load(rng.choice((0, 1, 2, 3, 3, 4)), lines)

@@ -1,7 +1,8 @@
 """Cases of the grammar: operands at the ends of their types, malformed, missing and left over;
 damaged lines, wild bytes and long lines."""
 
-from . import books, draws, factors, panels, provings, reports, singles, spreads, tickets, trips
+from . import draws, factors, panels, provings, reports, singles, spreads, tickets, trips
+from .book_shapes import NEW, load
 from .plain import plain_trips
 from .shapes import Draw, Fill, Job, Prover, Report, Run, Ticket, line
 
@@ -9,7 +10,8 @@ LONGEST = 524_288
 
 NAMES = (
     "cts cps cpl prove runs run draw fill passes bidirectional trips ticket live"
-    " panel_temperature panel_pressure spread write read request withdraw take book load empty"
+    " panel_temperature panel_pressure spread write read"
+    " request withdraw take book set figures load empty"
 ).split()
 
 
@@ -44,7 +46,9 @@ def examples():
         line("withdraw", 1, 77),
         line("take"),
         line("book"),
-        books.load(2, [[5], [6, 7], [], [8]]),
+        NEW.set,
+        line("figures"),
+        load(2, [[5], [6, 7], [], [8]]),
         line("empty"),
     ]
 
@@ -110,6 +114,7 @@ def aimed(rng):
     for example in examples():
         yield from malformed(example)
         yield from reshaped(example)
+    yield from loads_without_figures()
     yield from names()
     yield from silent()
     yield from long_lines(rng)
@@ -118,7 +123,8 @@ def aimed(rng):
 
 def malformed(example):
     words = example.split(b" ")
-    tried = range(1, len(words)) if len(words) < 20 else (1, 2, 5, 6, 21, 22, 69)
+    # of a long line, a `load`, both ends of each kind of operand
+    tried = range(1, len(words)) if len(words) < 20 else (1, 2, 5, 6, 9, 10, 13, 14, 29, 30, 77)
     for at in tried:
         for word in MALFORMED:
             yield b" ".join(words[:at] + [word] + words[at + 1 :])
@@ -154,6 +160,14 @@ def reshaped(example):
     yield b"#" + example
     yield example + b" # a remark"
     yield example + b"#"
+
+
+def loads_without_figures():
+    """A `load` that goes from the counts on to the places is a bad line; the kept book stays."""
+    for last in range(4):
+        words = load(last, [[5], [6, 7], [], [8]]).split(b" ")
+        yield b" ".join(words[:6] + words[14:])
+        yield line("book")
 
 
 def names():
