@@ -17,12 +17,12 @@
  *    4   K factor or limit out of range                  21  unknown shipper
  *    5 * record field out of range, or P below Pe        22  number zero
  *    6 * pass number or its pressure breaks the rule     23  already waiting
- *    7 * indicated volume out of range after rounding    24  ceiling reached: 8 waiting
- *    8 * run factor out of range                         25  has 2 or more, and the 8 shared places are used up
+ *    7 * indicated volume out of range after rounding    24  ceiling reached: has as many waiting
+ *    8 * run factor out of range                         25  has its reserve or more, and commons full
  *    9   no qualifying group                             26  withdrawn number not waiting
  *   10   ticket field out of range, or P below Pe        27  nothing to take
- *   11   closing below opening
- *   12   reading not finite
+ *   11   closing below opening                           30  book not empty
+ *   12   reading not finite                              31  figures outside the rules
  *   13   reading, or number for the panel, out of range
  *
  * UNITS AND RANGES, whole numbers all of them. Outside its range a number is refused, never bent.
@@ -70,6 +70,17 @@
  *   A run record's bytes 20 to 23, which had to be zero, are Pe.
  * Compile every caller again: no linker sees that one was compiled with the older header, and its tickets and
  * CPL would be wrong. sizeof(EndakuroTicket) tells the two headers apart at compile time.
+ *
+ * FROM A HEADER WITHOUT FIGURES, the book has moved; with reserve 2 and ceiling 8 for all the answers are those of
+ * before.
+ *   EndakuroBook has `figures` behind `last`, and 304 bytes where it had 296; the rest stands where it stood.
+ *   A book that an older caller kept, in memory or in a file, has no figures: where they stand now, its bytes mean
+ *   nothing. Give it those of a new book, 2 and 8, before any call sees it:
+ *       EndakuroBook book = endakuro_empty();
+ *       memcpy(&book, older, offsetof(EndakuroBook, figures));
+ *   A book that a caller fills in by itself has figures too: with zeros there it is not sound.
+ * Compile every caller again: of the 296 bytes that an older one lends, a call reads and writes past the end.
+ * sizeof(EndakuroBook) tells the two headers apart at compile time.
  */
 #ifndef ENDAKURO_H
 #define ENDAKURO_H
@@ -305,8 +316,11 @@ EndakuroPanel endakuro_panel_pressure(uint16_t psi);
 
 /* ---- The book of waiting requests ----
  *
- * Four shippers, 0 to 3, share one prover. Each has 2 places of its own; 8 more are shared; nobody has more
- * than 8 waiting. A take goes round the shippers, from the one after the last served.
+ * Four shippers, 0 to 3, share one prover and 16 places. Each has two figures of its own, by agreement: its reserve,
+ * the places that are kept for it alone, and its ceiling, the most that it may have waiting. What the four reserves
+ * leave of the 16 places are the commons; what a shipper has waiting beyond its reserve stands there. In a new book
+ * every reserve is 2 and every ceiling 8, so that the commons are 8. A take goes round the shippers, from the one
+ * after the last served.
  *
  * The controller keeps the book and lends it to each call, which changes it in place. Start from
  * endakuro_empty. A book may come from anywhere, a file or another port: one that is not sound is refused 20
@@ -318,9 +332,17 @@ typedef struct EndakuroLine {
     size_t count;
 } EndakuroLine;
 
+/* What was agreed. The rules: a reserve is 1 to 13, a ceiling from that reserve to 16, and the four reserves add up
+ * to at most 16. A ceiling of 14 to 16 is within the rules and never reached: three places are always the others'. */
+typedef struct EndakuroFigures {
+    uint8_t reserves[4]; /* of shippers 0 to 3 */
+    uint8_t ceilings[4];
+} EndakuroFigures;
+
 typedef struct EndakuroBook {
-    EndakuroLine lines[4]; /* of shippers 0 to 3 */
-    uint8_t last;          /* the shipper served last; 3 in a new book */
+    EndakuroLine lines[4];   /* of shippers 0 to 3 */
+    uint8_t last;            /* the shipper served last; 3 in a new book */
+    EndakuroFigures figures; /* 2 and 8 for all in a new book */
 } EndakuroBook;
 
 typedef struct EndakuroDone {
@@ -335,11 +357,25 @@ typedef struct EndakuroTaken {
     uint8_t shipper;  /* whose it is */
 } EndakuroTaken;
 
-/* A new book: nothing waits, and shipper 0 has the first turn. */
+typedef struct EndakuroCommons {
+    uint16_t number;
+    uint16_t record; /* always 0 */
+    size_t commons;  /* the places that are nobody's reserve */
+    size_t used;     /* how many of them are used: what each shipper has waiting beyond its reserve, added up */
+} EndakuroCommons;
+
+/* A new book: nothing waits, shipper 0 has the first turn, and the figures are 2 and 8 for all. */
 EndakuroBook endakuro_empty(void);
 
-/* Whether counts, shared places, waiting numbers, unused places and `last` are as they must be. */
+/* Whether figures, counts, commons, waiting numbers, unused places and `last` are as they must be. */
 bool endakuro_is_sound(const EndakuroBook *book);
+
+/* Sets the figures of a book in which nothing waits; the last served stays, and so whose turn it is. Refuses 20, 30
+ * where anyone waits, 31 for figures outside the rules; a refusal leaves the figures of before. */
+EndakuroDone endakuro_set_figures(EndakuroBook *book, EndakuroFigures figures);
+
+/* The commons of a book, and how many of them are used; its figures are read in the book itself. Refuses 20. */
+EndakuroCommons endakuro_commons(const EndakuroBook *book);
 
 /* A shipper asks that a request waits. Refuses 20, 21, 22, 23, 24, 25. */
 EndakuroDone endakuro_request(EndakuroBook *book, uint8_t shipper, uint32_t request);
@@ -464,8 +500,11 @@ ENDAKURO_SIZE(EndakuroPanel, 8);
 
 ENDAKURO_AT(EndakuroLine, count, 64);
 ENDAKURO_SIZE(EndakuroLine, 72);
+ENDAKURO_AT(EndakuroFigures, ceilings, 4);
+ENDAKURO_SIZE(EndakuroFigures, 8);
 ENDAKURO_AT(EndakuroBook, last, 288);
-ENDAKURO_SIZE(EndakuroBook, 296);
+ENDAKURO_AT(EndakuroBook, figures, 289);
+ENDAKURO_SIZE(EndakuroBook, 304);
 
 ENDAKURO_AT(EndakuroDone, record, 2);
 ENDAKURO_SIZE(EndakuroDone, 4);
@@ -473,6 +512,10 @@ ENDAKURO_AT(EndakuroTaken, record, 2);
 ENDAKURO_AT(EndakuroTaken, request, 4);
 ENDAKURO_AT(EndakuroTaken, shipper, 8);
 ENDAKURO_SIZE(EndakuroTaken, 12);
+ENDAKURO_AT(EndakuroCommons, record, 2);
+ENDAKURO_AT(EndakuroCommons, commons, 8);
+ENDAKURO_AT(EndakuroCommons, used, 16);
+ENDAKURO_SIZE(EndakuroCommons, 24);
 
 ENDAKURO_AT(EndakuroQuotient, kind, 8);
 ENDAKURO_SIZE(EndakuroQuotient, 16);

@@ -9,7 +9,7 @@ from pathlib import Path
 
 ROOT = Path(__file__).resolve().parents[1]
 HEADER = ROOT / "include" / "endakuro.h"
-SOURCES = [*sorted((ROOT / "crates/api/src").glob("*.rt")), ROOT / "crates/book/src/lib.rt"]
+SOURCES = [source for crate in ("api", "book") for source in sorted((ROOT / "crates" / crate / "src").glob("*.rt"))]
 
 NUMBERS = {
     "u8": ("uint8_t", 1),
@@ -24,7 +24,7 @@ NUMBERS = {
 SIZES = dict(NUMBERS.values())
 
 # The book's structs keep their own names in Rattle. Its logic takes fields of one word, and `record` is a word of its own there.
-RENAMED = {"Book": "EndakuroBook", "Line": "EndakuroLine"}
+RENAMED = {"Book": "EndakuroBook", "Line": "EndakuroLine", "Figures": "EndakuroFigures"}
 FIELDS = {"at": "record"}
 
 

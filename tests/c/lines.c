@@ -17,7 +17,8 @@ typedef struct {
 } Lent;
 
 static Lent records, buffer;
-static EndakuroBook kept;
+// The book, and as it was before the line that is answered.
+static EndakuroBook kept, before;
 
 // ---- operands
 
@@ -79,6 +80,13 @@ static EndakuroProver settings(void) {
     prover.modulus = number();
     prover.base = number();
     return prover;
+}
+
+static EndakuroFigures agreement(void) {
+    EndakuroFigures agreed;
+    for (int s = 0; s < 4; s++) agreed.reserves[s] = (uint8_t)number();
+    for (int s = 0; s < 4; s++) agreed.ceilings[s] = (uint8_t)number();
+    return agreed;
 }
 
 // ---- answers
@@ -284,21 +292,45 @@ static void read(void) {
     tell_report(endakuro_read(lent_bytes(&buffer), buffer.length));
 }
 
+// No line shows a book that is not sound, so that what a refusal leaves is seen here.
+static void require_left(uint16_t refusal) {
+    bool left = memcmp(kept.lines, before.lines, sizeof kept.lines) == 0 && kept.last == before.last &&
+                memcmp(&kept.figures, &before.figures, sizeof kept.figures) == 0;
+    require(refusal == 0 || left, "refused, and the book changed");
+}
+
+static void tell_change(EndakuroDone r) {
+    require_left(r.number);
+    tell(r.number, r.record, NULL, 0);
+}
+
 static void request(void) {
     uint8_t shipper = (uint8_t)number();
-    EndakuroDone r = endakuro_request(&kept, shipper, number());
-    tell(r.number, r.record, NULL, 0);
+    tell_change(endakuro_request(&kept, shipper, number()));
 }
 
 static void withdraw(void) {
     uint8_t shipper = (uint8_t)number();
-    EndakuroDone r = endakuro_withdraw(&kept, shipper, number());
-    tell(r.number, r.record, NULL, 0);
+    tell_change(endakuro_withdraw(&kept, shipper, number()));
 }
 
 static void take(void) {
     EndakuroTaken r = endakuro_take(&kept);
+    require_left(r.number);
     tell(r.number, r.record, VALUES(r.shipper, r.request));
+}
+
+static void set(void) { tell_change(endakuro_set_figures(&kept, agreement())); }
+
+// The book holds its figures, sound or not; the commons are the library's answer.
+static void figures(void) {
+    EndakuroCommons r = endakuro_commons(&kept);
+    int64_t values[10] = {[8] = (int64_t)r.commons, [9] = (int64_t)r.used};
+    for (int s = 0; s < 4 && r.number == 0; s++) {
+        values[s] = kept.figures.reserves[s];
+        values[4 + s] = kept.figures.ceilings[s];
+    }
+    tell(r.number, r.record, values, 10);
 }
 
 static void book(void) {
@@ -316,6 +348,7 @@ static void book(void) {
 static void load(void) {
     kept.last = (uint8_t)number();
     for (int s = 0; s < 4; s++) kept.lines[s].count = number();
+    kept.figures = agreement();
     for (int s = 0; s < 4; s++)
         for (int i = 0; i < 16; i++) kept.lines[s].numbers[i] = number();
     printf("ok");
@@ -350,6 +383,8 @@ static const struct {
     {"request", request},
     {"withdraw", withdraw},
     {"take", take},
+    {"set", set},
+    {"figures", figures},
     {"book", book},
     {"load", load},
     {"empty", empty},
@@ -361,6 +396,7 @@ int main(void) {
         char *end = strchr(line, '\n');
         if (end) *end = 0;
         rest = line;
+        before = kept;
         const char *name = next_word();
         size_t i = 0;
         while (i < sizeof entries / sizeof *entries && strcmp(entries[i].name, name) != 0) i++;
