@@ -18,11 +18,15 @@
     EndakuroDone side##_request(EndakuroBook *book, uint8_t shipper, uint32_t number);                                 \
     EndakuroDone side##_withdraw(EndakuroBook *book, uint8_t shipper, uint32_t number);                                \
     EndakuroTaken side##_take(EndakuroBook *book);                                                                     \
+    EndakuroDone side##_set_figures(EndakuroBook *book, EndakuroFigures figures);                                      \
+    EndakuroCommons side##_commons(const EndakuroBook *book);                                                          \
     EndakuroQuotient side##_rounded_ratio(uint64_t a, uint64_t b, uint64_t d)
 
 DECLARE(plain);
 DECLARE(bare);
 DECLARE(previous);
 
-// An archive of before bidirectional provers has none.
+// An archive of before bidirectional provers has none, and one of before agreements knows 2 and 8 alone.
 #pragma weak previous_bidirectional
+#pragma weak previous_set_figures
+#pragma weak previous_commons
