@@ -71,16 +71,15 @@
  * Compile every caller again: no linker sees that one was compiled with the older header, and its tickets and
  * CPL would be wrong. sizeof(EndakuroTicket) tells the two headers apart at compile time.
  *
- * FROM A HEADER WITHOUT FIGURES, the book has moved; with reserve 2 and ceiling 8 for all the answers are those of
- * before.
+ * FROM A HEADER WITHOUT FIGURES, the book has moved; with 2 and 8 for all the answers are those of before.
  *   EndakuroBook has `figures` behind `last`, and 304 bytes where it had 296; the rest stands where it stood.
- *   A book that an older caller kept, in memory or in a file, has no figures: where they stand now, its bytes mean
- *   nothing. Give it those of a new book, 2 and 8, before any call sees it:
+ *   A book that an older caller kept, in memory or in a file, has no figures: the bytes that stand in their place
+ *   mean nothing. Give it those of a new book, 2 and 8, before any call sees it:
  *       EndakuroBook book = endakuro_empty();
  *       memcpy(&book, older, offsetof(EndakuroBook, figures));
  *   A book that a caller fills in by itself has figures too: with zeros there it is not sound.
- * Compile every caller again: of the 296 bytes that an older one lends, a call reads and writes past the end.
- * sizeof(EndakuroBook) tells the two headers apart at compile time.
+ * Compile every caller again: an older one lends 296 bytes, and a call would read and write past their end, which no
+ * linker sees. sizeof(EndakuroBook) tells the two headers apart at compile time.
  */
 #ifndef ENDAKURO_H
 #define ENDAKURO_H

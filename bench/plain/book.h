@@ -14,8 +14,8 @@ static uint64_t reserved(const EndakuroFigures *figures) {
     return places;
 }
 
-// The places that are reserved or used: each shipper's reserve, or what it has waiting where that is more. Beyond those
-// reserved they are the commons used.
+// The places that are reserved or used: each shipper's reserve, or what it has waiting where that is more. Those beyond
+// the reserved ones are the commons used.
 static uint64_t occupied(const EndakuroBook *book) {
     uint64_t places = 0;
     for (int s = 0; s < SHIPPERS; s++) {
@@ -41,7 +41,8 @@ static bool is_line(const EndakuroLine *line, uint8_t ceiling) {
     return true;
 }
 
-// A ceiling is judged before its line, which then has room for it.
+// A ceiling is judged before its line, which then ends within its record. Where what is occupied fits the places, so do
+// the reserves, and the commons used fit the commons.
 static bool is_sound(const EndakuroBook *book) {
     for (int s = 0; s < SHIPPERS; s++) {
         uint8_t ceiling = book->figures.ceilings[s];

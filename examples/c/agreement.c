@@ -35,8 +35,8 @@ static const char *in_words(uint16_t number) {
 static void show(const EndakuroBook *book) {
     const uint8_t *r = book->figures.reserves, *c = book->figures.ceilings;
     EndakuroCommons shared = endakuro_commons(book);
-    printf("  reserves %u %u %u %u, ceilings %u %u %u %u, commons %zu, of which %zu used\n", r[0], r[1], r[2], r[3], c[0],
-           c[1], c[2], c[3], shared.commons, shared.used);
+    printf("  reserves %u %u %u %u, ceilings %u %u %u %u, ", r[0], r[1], r[2], r[3], c[0], c[1], c[2], c[3]);
+    printf("commons %zu, of which %zu used\n", shared.commons, shared.used);
 }
 
 static void agree(EndakuroBook *book, const char *what, EndakuroFigures figures) {
@@ -49,7 +49,8 @@ static void agree(EndakuroBook *book, const char *what, EndakuroFigures figures)
 static void ask(EndakuroBook *book, uint8_t shipper, uint32_t number) {
     EndakuroDone asked = endakuro_request(book, shipper, number);
     while (asked.number == 0) asked = endakuro_request(book, shipper, ++number);
-    printf("shipper %u has %zu waiting; %u is %s\n", shipper, book->lines[shipper].count, number, in_words(asked.number));
+    size_t waiting = book->lines[shipper].count;
+    printf("shipper %u has %zu waiting; %u is %s\n", shipper, waiting, number, in_words(asked.number));
 }
 
 static void serve(EndakuroBook *book) {
@@ -58,15 +59,15 @@ static void serve(EndakuroBook *book) {
 }
 
 int main(void) {
-    // Six places are its own and it may have nine waiting; two are each neighbour's, who may have four.
-    static const EndakuroFigures agreed = {.reserves = {6, 2, 2, 2}, .ceilings = {9, 4, 4, 4}};
+    // Six places are its own, four of them out of the commons, and it may have nine waiting.
+    static const EndakuroFigures agreed = {.reserves = {6, 2, 2, 2}, .ceilings = {9, 8, 8, 8}};
     EndakuroFigures slip = agreed;
-    slip.reserves[LARGEST] = 11; // 17 places in all
+    slip.ceilings[LARGEST] = 5; // below its reserve
 
     EndakuroBook book = taken_over(&last_season);
     agree(&book, "with a request of last season waiting", agreed);
     serve(&book);
-    agree(&book, "with a slip in a reserve", slip);
+    agree(&book, "with a slip in a ceiling", slip);
     agree(&book, "as it was agreed", agreed);
 
     ask(&book, LARGEST, 101);
