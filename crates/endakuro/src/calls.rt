@@ -289,13 +289,13 @@ fn say_read(bytes: &[u8], out: &mut [u8]) -> usize {
 // The entries whose last operand is lent records, or one.
 fn answer_records(entry: usize, line: &[u8], records: &[u8], out: &mut [u8]) -> usize {
     match entry {
-        8 => say_runs(line, records, out),
-        9 => say_run(line, records, out),
-        10 => say_read(records, out),
-        11 => say_draw(Profile::Unidirectional, line, records, out),
-        12 => say_fill(line, records, out),
-        13 => list_volumes(Profile::Unidirectional, line, records, out),
-        14 => say_draw(Profile::Bidirectional, line, records, out),
+        10 => say_runs(line, records, out),
+        11 => say_run(line, records, out),
+        12 => say_read(records, out),
+        13 => say_draw(Profile::Unidirectional, line, records, out),
+        14 => say_fill(line, records, out),
+        15 => list_volumes(Profile::Unidirectional, line, records, out),
+        16 => say_draw(Profile::Bidirectional, line, records, out),
         _ => list_volumes(Profile::Bidirectional, line, records, out),
     }
 }
@@ -335,14 +335,14 @@ fn answer_spread(line: &[u8], out: &mut [u8]) -> usize {
 
 fn answer_numbers(entry: usize, line: &[u8], out: &mut [u8]) -> usize {
     match entry {
-        16 => answer_cts(line, out),
-        17 => answer_cps(line, out),
-        18 => answer_cpl(line, out),
-        19 => answer_ticket(line, out),
-        20 => answer_live(line, out),
-        21 => answer_spread(line, out),
-        22 => answer_panel_temperature(line, out),
-        23 => answer_panel_pressure(line, out),
+        18 => answer_cts(line, out),
+        19 => answer_cps(line, out),
+        20 => answer_cpl(line, out),
+        21 => answer_ticket(line, out),
+        22 => answer_live(line, out),
+        23 => answer_spread(line, out),
+        24 => answer_panel_temperature(line, out),
+        25 => answer_panel_pressure(line, out),
         _ => answers::say_bad(out),
     }
 }
@@ -356,9 +356,9 @@ pub(crate) fn answer(
     out: &mut [u8],
 ) -> usize {
     match entry {
-        6 => answer_prove(line, first, second, out),
-        7 => answer_write(line, first, out),
-        8..=15 => answer_lent(entry, line, first, out),
+        8 => answer_prove(line, first, second, out),
+        9 => answer_write(line, first, out),
+        10..=17 => answer_lent(entry, line, first, out),
         _ => answer_numbers(entry, line, out),
     }
 }

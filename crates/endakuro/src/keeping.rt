@@ -5,6 +5,8 @@ use crate::operands;
 use book::Book;
 use book::Change;
 use book::Changed;
+use book::Commons;
+use book::Figures;
 use book::Handout;
 use book::Line;
 use lines::answers::add_numbers;
@@ -63,6 +65,10 @@ fn wide(n: u32) -> u64 {
     n as u64
 }
 
+fn widen(n: u8) -> u64 {
+    n as u64
+}
+
 // A shipper's count and its waiting numbers, as they stand behind one another.
 fn add_waiting(line: Line, out: &mut [u8], from: usize) -> usize {
     let numbers = line.numbers;
@@ -89,12 +95,68 @@ fn say_book(kept: Book, out: &mut [u8]) -> usize {
     at
 }
 
-// A shipper's sixteen places, from word 6 on, and its count, from word 2 on.
+// R0 R1 R2 R3 T0 T1 T2 T3 COMMONS COMMONSUSED
+fn add_figures(figures: Figures, commons: u64, used: u64, out: &mut [u8]) -> usize {
+    let reserves = figures.reserves;
+    let ceilings = figures.ceilings;
+    say_ok(
+        &[
+            widen(reserves[0]),
+            widen(reserves[1]),
+            widen(reserves[2]),
+            widen(reserves[3]),
+            widen(ceilings[0]),
+            widen(ceilings[1]),
+            widen(ceilings[2]),
+            widen(ceilings[3]),
+            commons,
+            used,
+        ],
+        out,
+    )
+}
+
+fn say_figures(kept: Book, out: &mut [u8]) -> usize {
+    let told = book::tell_commons(kept);
+    match told {
+        Commons::Shared(commons, used) => {
+            add_figures(kept.figures, commons as u64, used as u64, out)
+        }
+        Commons::Refused(refusal) => refuse(refusal, out),
+    }
+}
+
+// The figures of shippers 0 to 3, of one kind.
+fn four_at(line: &[u8], from: usize) -> [u8; 4]
+    requires { ⌜ from < 16 ⌝ }
+{
+    [
+        operands::u8_at(line, from),
+        operands::u8_at(line, from + 1),
+        operands::u8_at(line, from + 2),
+        operands::u8_at(line, from + 3),
+    ]
+}
+
+// Reserves, and ceilings behind them.
+fn figures_at(line: &[u8], from: usize) -> Figures
+    requires { ⌜ from < 8 ⌝ }
+{
+    let reserves = four_at(line, from);
+    let ceilings = four_at(line, from + 4);
+    Figures { reserves, ceilings }
+}
+
+fn answer_set(line: &[u8], kept: Book, out: &mut [u8]) -> Answered {
+    say_change(book::set_figures(kept, figures_at(line, 1)), out)
+}
+
+// A shipper's sixteen places, from word 14 on, and its count, from word 2 on.
 fn line_at(line: &[u8], shipper: usize) -> Line
     requires { ⌜ shipper < 4 ⌝ }
 {
     let mut numbers = [0u32; 16];
-    let from = 6 + 16 * shipper;
+    let from = 14 + 16 * shipper;
     let mut i = 0;
     while i < 16 {
         numbers[i] = operands::u32_at(line, from + i);
@@ -112,6 +174,7 @@ fn book_at(line: &[u8]) -> Book {
     Book {
         lines: [first, second, third, fourth],
         last: operands::u8_at(line, 1),
+        figures: figures_at(line, 6),
     }
 }
 
@@ -130,9 +193,14 @@ pub(crate) fn answer(entry: usize, line: &[u8], kept: Book, out: &mut [u8]) -> A
         2 => answer_take(kept, out),
         3 => replace(book_at(line), out),
         4 => replace(Book::empty(), out),
-        _ => Answered {
+        5 => Answered {
             book: kept,
             length: say_book(kept, out),
+        },
+        6 => answer_set(line, kept, out),
+        _ => Answered {
+            book: kept,
+            length: say_figures(kept, out),
         },
     }
 }

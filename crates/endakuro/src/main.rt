@@ -32,7 +32,7 @@ fn answer_line(
         return kept;
     }
     let entry = entries::find_entry(line);
-    if entry < 6 {
+    if entry < 8 {
         let answered = keeping::answer(entry, line, kept, out);
         say(out, answered.length);
         let book = answered.book;
