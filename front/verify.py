@@ -10,7 +10,7 @@ import zipfile
 import zlib
 from dataclasses import replace
 
-from . import as_json, fields, page, pages, plot, results, version, workbook, worksheets
+from . import as_json, fields, json_bodies, page, pages, plot, results, version, workbook, worksheets
 from . import worked as works
 from .badfile import BadFile
 from .extras import Extras
@@ -60,7 +60,7 @@ def leave_out_later(told):
     equilibrium pressure of 0, a unidirectional profile, and then its first pass, which its group begins with."""
     for record in (*told.get("runs", ()), told.get("readings", {})):
         for key in fields.AT_MOST:
-            if record.get(key) == as_json.figure(fields.DOES_NOT_BOIL, fields.PSI):
+            if record.get(key) == json_bodies.figure(fields.DOES_NOT_BOIL, fields.PSI):
                 del record[key]
     if told.get("command") == "draw" and told["settings"].get("profile", UNIDIRECTIONAL.name) == UNIDIRECTIONAL.name:
         told["settings"].pop("profile", None)
