@@ -8,6 +8,7 @@ from .json_bodies import BODIES, figure
 from .refusals import WORDS, Detail
 
 ACCEPTED, REFUSED, BAD = "accepted", "refused", "bad file"
+OF_A_BOOK = ("last", "lines", "reserves", "ceilings", "commons", "commons_used")
 
 
 def text(told):
@@ -65,11 +66,18 @@ def bad(command, fault):
     return head(command, BAD) | {"faults": listed}
 
 
-def step(text, words, explained, lines, last):
-    """A step of a book session, and the book after it; no lines where it is not sound."""
-    told = head("book", REFUSED if explained else ACCEPTED) | {"step": text, "words": words}
-    told["book"] = {"sound": lines is not None, "last": last, "lines": lines}
+def step(text, words, explained, own):
+    """A step of a book session, and the book after it."""
+    told = head("book", REFUSED if explained else ACCEPTED) | {"step": text, "words": words, "book": book(own)}
     return told | ({"refusal": refusal(explained)} if explained else {})
+
+
+def book(own):
+    """The book as it stands; all is null of one that is not sound, since the program tells nothing of it."""
+    if own is None:
+        return {"sound": False} | dict.fromkeys(OF_A_BOOK)
+    held = (own.last, own.lines, own.figures.reserves, own.figures.ceilings, own.commons, own.used)
+    return {"sound": True} | dict(zip(OF_A_BOOK, held))
 
 
 def new(kind, content):

@@ -80,6 +80,9 @@ PIPE = named(
 )
 
 REQUEST = Field("request", "request number", NUMBER, 1, 2**32 - 1, "I")
+# 02: 'reserve 1 to 13, ceiling from that reserve to 16'; 'The default is 2 and 8 for all'.
+RESERVE = Field("reserve", "reserve", NUMBER, 1, 13, "B", 2)
+CEILING = Field("ceiling", "ceiling", NUMBER, 1, 16, "B", 8)
 K_FACTOR = Field("k_factor", "K factor", PULSES_PER_BARREL, 1, 1_000_000_000, "I")
 LIMIT = Field("repeatability_limit", "repeatability limit", TEN_THOUSANDTH, 1, 100, "H")
 # 01: 'House limit is 5'; a water draw's is always 2.

@@ -1,7 +1,7 @@
 """The texts of --help: what a command does, every key of its job file with its range, and the exit status."""
 
-from . import book as books
 from . import fields
+from .book_steps import STEPS
 from .profiles import BIDIRECTIONAL, UNIDIRECTIONAL
 
 ABOUT = """\
@@ -115,13 +115,15 @@ PANEL = described(
 READ = "Prints what a 32-byte report record says: request, meter factor, the accepted runs and their factors."
 BOOK = "\n".join(
     [
-        "Works through a session and shows the four lines after each step. A session file is checked whole",
-        "before its first step; one that has a refused step exits 1. At the keyboard refusals are told and the",
-        "session goes on; lines can be edited and called back. --keep FILE goes on from the book that an earlier",
-        "session left, and writes it after each change, whole or not at all.",
+        "Works through a session and shows the book after each step: each shipper's reserve, ceiling and waiting",
+        "numbers, the commons in use and the shipper last served. A session file is checked whole before its first",
+        "step; one that has a refused step exits 1. At the keyboard refusals are told and the session goes on;",
+        "lines can be edited and called back. --keep FILE goes on from the book that an earlier session left, its",
+        "figures too, and writes it after each change, whole or not at all. A kept file without figures is read",
+        "with those of a new book, and stays as it is until the book changes.",
         "",
         "steps:",
-        *("  " + line for line in books.STEPS.splitlines()),
+        *("  " + line for line in STEPS.splitlines()),
     ]
 )
 NEW = """\

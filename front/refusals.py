@@ -2,7 +2,7 @@
 
 from dataclasses import dataclass
 
-# 01, 'Numbers given back'.
+# 01, 'Numbers given back', and what 02 adds to it; 25 as it reads with each shipper's own reserve.
 WORDS = {
     1: "records not whole, or too few or many",
     2: "an unnamed byte is not zero",
@@ -24,9 +24,11 @@ WORDS = {
     22: "number zero",
     23: "already waiting",
     24: "ceiling reached",
-    25: "has 2 or more and commons full",
+    25: "has its reserve or more and commons full",
     26: "withdrawn number not waiting",
     27: "nothing to take",
+    30: "book not empty",
+    31: "figures outside the rules",
 }
 
 

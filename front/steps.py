@@ -4,7 +4,7 @@ keyboard, with history and editing."""
 import sys
 
 from .badfile import BadFile, Fault
-from .book import BadStep, step_of
+from .book_steps import BadStep, step_of
 from .jobfiles import File, octets_of
 
 PROMPT = "book> "

@@ -53,7 +53,18 @@ SHOWN = {
         "40 psi, shown as 40 psi (single 42200000)",
     ),
     "report-7.record": ("Meter factor              1.0002", "2 to 6 of 6", "Run factor, run 6         1.0005"),
-    "book.txt": ("request 101 of shipper 0 is taken", "shipper 0: 102 103", "last served: shipper 0"),
+    "book.txt": (
+        "request 101 of shipper 0 is taken",
+        "\n  shipper 0  reserve 2  ceiling 8  2 waiting: 102 103\n",
+        "commons: 1 of 8 in use",
+        "last served: shipper 0",
+    ),
+    "agreement.txt": (
+        "\n  shipper 0  reserve 5  ceiling 12  6 waiting: 101 102 103 104 105 106\n",
+        "\n  shipper 3  reserve 2  ceiling  6  0 waiting\n  commons: 2 of 5 in use\n",
+        "request 201 of shipper 1 is taken",
+        "request 102 of shipper 0 is taken",
+    ),
 }
 # Which command an example is for; prove where nothing is said.
 COMMANDS = {
@@ -66,12 +77,14 @@ COMMANDS = {
     "panel.toml": "panel",
     "report-7.record": "read",
     "book.txt": "book",
+    "agreement.txt": "book",
 }
 
 # Refusals are named by their command, or by the profile of a draw.
 NAMED = {"bidirectional": "draw"}
 
-# 01's table: the numbers that each command can give. prove lends 32 bytes itself, so 14 cannot arise there.
+# 01's table, with what 02 adds: the numbers that each command can give. prove lends 32 bytes itself, so 14 cannot arise
+# there.
 NUMBERS = {
     "prove": {1, 2, 3, 4, 5, 7, 8, 9, 22},
     "draw": {1, 2, 3, 5, 6, 9},
@@ -80,9 +93,9 @@ NUMBERS = {
     "live": {12, 13},
     "panel": {13},
     "read": {14, 15},
-    "book": {20, 21, 22, 23, 24, 25, 26, 27},
+    "book": {20, 21, 22, 23, 24, 25, 26, 27, 30, 31},
 }
-# 01's table in words.
+# The same in words.
 WORDS = {
     1: "records not whole, or too few or many", 2: "an unnamed byte is not zero", 3: "prover setting out of range",
     4: "K factor or limit out of range", 5: "record field out of range",
@@ -90,9 +103,11 @@ WORDS = {
     8: "run factor out of range", 9: "no qualifying group", 10: "ticket field out of range",
     11: "closing below opening", 12: "reading not finite", 13: "reading out of range",
     14: "report buffer not 32 bytes", 15: "not a report", 20: "book not sound", 21: "unknown shipper",
-    22: "number zero", 23: "already waiting", 24: "ceiling reached", 25: "has 2 or more and commons full",
-    26: "withdrawn number not waiting", 27: "nothing to take",
+    22: "number zero", 23: "already waiting", 24: "ceiling reached",
+    25: "has its reserve or more and commons full", 26: "withdrawn number not waiting", 27: "nothing to take",
+    30: "book not empty", 31: "figures outside the rules",
 }  # fmt: skip
+SAID = "# refused: "
 RECORD_WORDS = {
     "read-14-cut-short.record": "record has 31 bytes, range 32",
     "read-15-not-the-mean.record": "job factor is 1.0003, range the rounded mean of the five",
@@ -116,19 +131,29 @@ def named(path):
     return NAMED.get(first, first), int(number)
 
 
+def told_in(path):
+    """The words that a refusal's file says will come: its first line, or its first lines where they are several."""
+    if path.name in RECORD_WORDS:
+        return [RECORD_WORDS[path.name]]
+    lines = [line for line in path.read_text().splitlines() if line.startswith(SAID)]
+    return [line.removeprefix(SAID) for line in lines]
+
+
 def refused(tally):
     given = {}
     for path in sorted((FOLDER / "refusals").iterdir()):
         command, number = named(path)
         given.setdefault(path.name.split("-")[0], set()).add(number)
-        words = RECORD_WORDS.get(path.name) or path.read_text().splitlines()[0].removeprefix("# refused: ")
+        words = told_in(path)
         status, out, err = called(command, path)
         tally.same(status, 1, f"{path.name}: status")
         head = f"refused {number}: {WORDS[number]}"
+        lines = "\n   ".join((head, *words))
         if command == "book":
-            tally.holds(out, f"{head}; {words}\n", path.name)
+            tally.holds(out, f"\n{lines if len(words) > 1 else f'{head}; {words[0]}'}\n  ", path.name)
+            tally.same(out.count("\nrefused "), 1, f"{path.name}: refusals")
         else:
-            tally.same(err, f"{path}: {head}\n   {words}\n", path.name)
+            tally.same(err, f"{path}: {lines}\n", path.name)
             # Only where every run or pass has its figures is there a page to show.
             tally.same(bool(out), number == 9, f"{path.name}: a page")
     tally.same(given, NUMBERS, "refusals that have an example")

@@ -35,7 +35,9 @@ WORDS = {
     "lines": ("docs/LINES.md",),
     "book": (
         *("--keep FILE", "request SHIPPER NUMBER", "withdraw SHIPPER NUMBER", "take", "empty"),
-        *("load LAST L0 L1 L2 L3", "quit"),
+        *("set R0 R1 R2 R3 T0 T1 T2 T3\n", " 1 to 13 and at most 16 in all", "reserve to 16; the commons"),
+        *("a new book, with reserve 2 and ceiling 8 for all", "load LAST L0 L1 L2 L3 [R0 R1 R2 R3 T0 T1 T2 T3]\n"),
+        *("commons in use", "A kept file without figures is read", "quit"),
     ),
     "verify": ("REPORT", "JOB.toml", "SHA-256", "--json"),
     "rework": ("--reports DIR", "--csv OUT", "--recursive", "--patience SECONDS", "--force", "Ctrl-C", "130"),

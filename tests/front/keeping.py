@@ -10,6 +10,13 @@ from harness import LAUNCHER, Tally, run
 from losses import small_files
 
 UP, LEFT = "\x1b[A", "\x1b[D"
+FIRST = "  shipper 0  reserve 2  ceiling 8 "
+
+
+def step_in(kept):
+    """The one step of a kept book, below its notes."""
+    [step] = [line for line in kept.read_text().splitlines() if not line.startswith("#")]
+    return step
 
 
 def between_sessions(tally, folder):
@@ -19,15 +26,15 @@ def between_sessions(tally, folder):
     tally.same((status, err, other.is_symlink()), (0, "", True), "the first session")
     status, out, _ = run("book", "--keep", kept, given="take\nbook\n")
     tally.same(status, 0, "the second session")
-    tally.holds(out, "request 101 of shipper 0 is taken\n  shipper 0: 102\n", "the second session")
+    tally.holds(out, f"request 101 of shipper 0 is taken\n{FIRST} 1 waiting: 102\n", "the second session")
     status, out, _ = run("book", "--keep", kept, given="take\n")
-    tally.holds(out, "request 7 of shipper 2 is taken\n  shipper 0: 102\n  shipper 1: -\n", "whose turn it is is kept")
-    tally.same(kept.read_text().splitlines()[1:], ["load 2 102 - - -"], "what is kept")
+    tally.holds(out, f"request 7 of shipper 2 is taken\n{FIRST} 1 waiting: 102\n", "whose turn it is is kept")
+    tally.same(step_in(kept), "load 2 102 - - - 2 2 2 2 8 8 8 8", "what is kept")
     status, out, _ = run("book", kept)
     tally.same(status, 0, "a kept book is a session too")
-    tally.holds(out, "shipper 0: 102", "a kept book is a session too")
+    tally.holds(out, f"{FIRST} 1 waiting: 102\n", "a kept book is a session too")
     run("book", "--keep", kept, given="request 1 5\nask\ntake\n")
-    tally.holds(kept.read_text(), "load 2 102 5 - -\n", "steps before a line that is none are kept")
+    tally.same(step_in(kept), "load 2 102 5 - - 2 2 2 2 8 8 8 8", "steps before a line that is none are kept")
     session = folder / "session.txt"
     session.write_text("request 1 6\nask\n")
     before = kept.read_bytes()
@@ -35,6 +42,49 @@ def between_sessions(tally, folder):
     status, out, _ = run("book", "--keep", kept, given="load 9 1 - - -\n")
     tally.same(kept.read_bytes(), before, "a book that is not sound is not kept")
     tally.holds(out, f"the book is not sound: {kept} keeps the last one that was", "a book that is not sound")
+
+
+def by_agreement(tally, folder):
+    """Figures are kept with the book."""
+    kept = folder / "book.txt"
+    tally.same(run("book", "--keep", kept, given="set 5 2 2 2 12 6 6 6\n")[0], 0, "figures set")
+    tally.same(step_in(kept), "load 3 - - - - 5 2 2 2 12 6 6 6", "figures are kept")
+    asks = "".join(f"request 0 {number}\n" for number in range(1, 12))
+    status, out, _ = run("book", "--keep", kept, given=asks)
+    told = "shipper 0 has 10 waiting, range up to its reserve of 5 while the commons are used up, 5 of 5\n"
+    tally.holds(out, told, "the commons of kept figures")
+    tally.same((status, step_in(kept)), (1, "load 3 1,2,3,4,5,6,7,8,9,10 - - - 5 2 2 2 12 6 6 6"), "kept with figures")
+    before = kept.read_bytes()
+    for step, number in (("set 2 2 2 2 8 8 8 8", 30), ("request 0 1", 23)):
+        status, out, _ = run("book", "--keep", kept, given=f"{step}\n")
+        tally.check(status == 1 and f"\nrefused {number}: " in out, f"{step}: {out!r}")
+        tally.same(kept.read_bytes(), before, f"{step}: a refused step keeps nothing new")
+    for figures in ("5 4 4 4 12 8 8 8", "0 2 2 2 8 8 8 8", "5 2 2 2 4 6 6 6"):
+        kept.write_text(f"load 3 - - - - {figures}\n")
+        status, out, err = run("book", "--keep", kept, given="set 2 2 2 2 8 8 8 8\n")
+        tally.same((status, out, step_in(kept)), (2, "", f"load 3 - - - - {figures}"), f"no kept book: {figures}")
+        tally.check(err.startswith(f"{kept}: --keep: holds no kept book: it is not sound: "), f"{figures}: {err!r}")
+    tally.check(err.endswith(": ceiling of shipper 0 is 4, range 5 (its reserve) to 16\n"), f"what is wrong: {err!r}")
+
+
+def without_figures(tally, folder):
+    """A file without figures is read with those of a new book, and stays byte for byte until the book changes."""
+    kept = folder / "book.txt"
+    notes = b"# The book of waiting requests; ./endakuro book --keep goes on from it.\r\n# mine\r\n"
+    for last, lines in ((3, "- - - -"), (1, "101,102 - 7 -"), (0, "1,2,3,4,5,6,7,8 - - -")):
+        old = notes + f"load {last} {lines}".encode()
+        kept.write_bytes(old)
+        status, out, err = run("book", "--keep", kept, given="book\nrequest 0 0\nhelp\n")
+        tally.same((status, err, kept.read_bytes()), (1, "", old), f"{lines}: nothing has changed")
+        tally.same(out.count("reserve 2  ceiling 8"), 8, f"{lines}: figures of a new book")
+        tally.holds(out, f"\n  last served: shipper {last}\n", lines)
+        tally.same(run("book", "--keep", kept, given="load 9 - - - -\nbook\n")[0], 1, f"{lines}: a book not sound")
+        tally.same(kept.read_bytes(), old, f"{lines}: a book that is not sound is not kept")
+        tally.same(run("book", "--keep", kept, given="request 3 55\n")[0], 0, f"{lines}: a change")
+        changed = lines[:-1] + "55"
+        tally.same(step_in(kept), f"load {last} {changed} 2 2 2 2 8 8 8 8", f"{lines}: written with figures")
+        tally.same(run("book", "--keep", kept, given="withdraw 3 55\n")[0], 0, f"{lines}: and back")
+        tally.same(step_in(kept), f"load {last} {lines} 2 2 2 2 8 8 8 8", f"{lines}: nothing is lost")
 
 
 def left_alone(tally, folder):
@@ -114,7 +164,7 @@ def keyboard(tally, folder):
 
 def test():
     tally = Tally("kept books")
-    for part in (between_sessions, left_alone, two_sessions, keyboard):
+    for part in (between_sessions, by_agreement, without_figures, left_alone, two_sessions, keyboard):
         with tempfile.TemporaryDirectory() as folder:
             part(tally, Path(folder))
     return tally

@@ -16,6 +16,14 @@ from front.units import shown
 EXAMPLES = ROOT / "examples"
 PAGE = (ROOT / "docs" / "JSON.md").read_text()
 FIGURE = {"count", "unit", "decimals"}
+# The field of a refused figure, its value and its range.
+FIGURE_FIELDS = {
+    "book-31-reserve-zero.txt": ("reserve of shipper 2", 0, 1, 13),
+    "book-31-ceiling-below-reserve.txt": ("ceiling of shipper 0", 4, 5, 16),
+    "book-31-ceiling-above-16.txt": ("ceiling of shipper 0", 17, 5, 16),
+    "book-31-seventeen-reserved.txt": ("reserves", 17, 4, 16),
+    "book-20-figures-outside-the-rules.txt": ("reserves", 17, 4, 16),
+}
 
 
 def no_fraction(written):
@@ -158,9 +166,23 @@ def reworked(tally, folder):
     documented(tally, last, "rework")
 
 
+def as_shown(tally, book, page, name):
+    """A book of the JSON is on the page, line by line."""
+    if not book["sound"]:
+        tally.same(set(book.values()), {False, None}, f"{name}: a book that is not sound")
+        return
+    for who, (waiting, *own) in enumerate(zip(book["lines"], book["reserves"], book["ceilings"])):
+        listed = f": {' '.join(map(str, waiting))}" if waiting else ""
+        row = r"\n  shipper {}  reserve +{}  ceiling +{}  +{} waiting{}\n".format(who, *own, len(waiting), listed)
+        tally.check(re.search(row, page), f"{name}: {row!r} is not in {page!r}")
+    tally.holds(page, f"\n  commons: {book['commons_used']} of {book['commons']} in use\n", name)
+    tally.holds(page, f"\n  last served: shipper {book['last']}\n", name)
+
+
 def booked(tally):
     """A line a step, with the book after it."""
-    for path in (EXAMPLES / "book.txt", *sorted((EXAMPLES / "refusals").glob("book-*.txt"))):
+    sessions = (EXAMPLES / "book.txt", EXAMPLES / "agreement.txt")
+    for path in (*sessions, *sorted((EXAMPLES / "refusals").glob("book-*.txt"))):
         status, out, _ = called("book", path, "--json")
         lines = [parsed(line) for line in out.splitlines()]
         page = called("book", path)[1]
@@ -169,15 +191,19 @@ def booked(tally):
         tally.same(bool(refused), status == 1, f"{path.name}: refusals")
         for told in lines:
             documented(tally, told, path.name)
-            for who, waiting in enumerate(told["book"]["lines"] or ()):
-                row = f"  shipper {who}: {' '.join(map(str, waiting)) or '-'}\n"
-                tally.holds(page, row, f"{path.name}: {told['step']}")
+            as_shown(tally, told["book"], page, f"{path.name}: {told['step']}")
         for told in refused:
             words = f"refused {told['refusal']['number']}: {told['refusal']['words']}"
-            tally.holds(told["words"], words, path.name)
+            details = [detail["words"] for detail in told["refusal"]["details"]]
+            tally.same(told["words"], "; ".join((words, *details)), path.name)
     told = parsed(called("book", EXAMPLES / "refusals" / "book-21-unknown-shipper.txt", "--json")[1].splitlines()[-1])
     detail = told["refusal"]["details"][0]
     tally.same((detail["field"], detail["range"]["low"], detail["range"]["high"]), ("shipper", 0, 3), "unknown shipper")
+    for name, expected in FIGURE_FIELDS.items():
+        told = parsed(called("book", EXAMPLES / "refusals" / name, "--json")[1].splitlines()[-1])
+        [detail] = told["refusal"]["details"]
+        found = (detail["field"], detail["value"]["count"], detail["range"]["low"], detail["range"]["high"])
+        tally.same(found, expected, name)
 
 
 def begun(tally):

@@ -9,6 +9,8 @@ OPERATORS = (ast.Mult, ast.Div, ast.FloorDiv, ast.Mod, ast.Pow)
 CALLS = {"round", "float", "Decimal", "Fraction", "divmod", "sum", "pow", "ceil", "fsum", "mean"}
 # (module, function): what it is for. What places marks and letters is free.
 KNOWN = {
+    ("book_faults", "of_commons"): "what waits beyond the reserves of a book that is not sound, for its words",
+    ("book_faults", "of_figures"): "what reserves add up to that break the rule, for a refusal's words",
     ("build", ""): "paths",
     ("build", "is_current"): "paths",
     ("entry_files", "tables"): "paths",
