@@ -28,6 +28,7 @@ class KeptBook:
     def __init__(self, path):
         # The file's bytes as they were last seen, and the book that they hold; None where there is none.
         self.path, self.content, self.book = path, None, None
+        self.notes = HEAD
 
     def begin(self, desk):
         """The book of the file, made the desk's. A file that is not there, or is empty, is a new book."""
@@ -36,9 +37,12 @@ class KeptBook:
         if not os.path.exists(self.path):
             return
         self.content = octets_of(self.path)
-        steps = [line for line in File(self.path, self.content).lines if line.strip() and not line.startswith("#")]
+        lines = File(self.path, self.content).lines
+        steps = [line for line in lines if line.strip() and not line.startswith("#")]
         if len(steps) > 1 or not all(step.startswith("load ") for step in steps):
             raise self.no_book("expected one that book --keep has written, or a new file")
+        # What somebody has noted there stays.
+        self.notes = "".join(f"{line}\n" for line in lines if line.startswith("#")) or HEAD
         for step in steps:
             try:
                 desk.do(step_of(step))
@@ -61,7 +65,7 @@ class KeptBook:
         now = octets_of(self.path) if os.path.exists(self.path) else None
         if now != self.content:
             raise outputs.NotWritten(self.path, "another session has changed it since; its book stays")
-        content = f"{HEAD}{load_text(book)}\n".encode()
+        content = f"{self.notes}{load_text(book)}\n".encode()
         outputs.write(self.path, content)
         self.content, self.book = content, book
         return []

@@ -70,7 +70,7 @@ def by_agreement(tally, folder):
 def without_figures(tally, folder):
     """A file without figures is read with those of a new book, and stays byte for byte until the book changes."""
     kept = folder / "book.txt"
-    notes = b"# The book of waiting requests; ./endakuro book --keep goes on from it.\r\n# mine\r\n"
+    notes = b"# The book of waiting requests; ./endakuro book --keep goes on from it.\r\n# Shipper 3 is away.\r\n"
     for last, lines in ((3, "- - - -"), (1, "101,102 - 7 -"), (0, "1,2,3,4,5,6,7,8 - - -")):
         old = notes + f"load {last} {lines}".encode()
         kept.write_bytes(old)
@@ -85,6 +85,8 @@ def without_figures(tally, folder):
         tally.same(step_in(kept), f"load {last} {changed} 2 2 2 2 8 8 8 8", f"{lines}: written with figures")
         tally.same(run("book", "--keep", kept, given="withdraw 3 55\n")[0], 0, f"{lines}: and back")
         tally.same(step_in(kept), f"load {last} {lines} 2 2 2 2 8 8 8 8", f"{lines}: nothing is lost")
+        stays = notes.replace(b"\r\n", b"\n")
+        tally.check(kept.read_bytes().startswith(stays + b"load "), f"{lines}: notes stay: {kept.read_bytes()!r}")
 
 
 def left_alone(tally, folder):
@@ -106,12 +108,17 @@ def left_alone(tally, folder):
     before = kept.read_bytes()
     full = [str(LAUNCHER), "book", "--keep", str(kept)]
     many = "".join(f"request {at % 4} {4_000_000_000 + at}\n" for at in range(60)).encode()
-    done = subprocess.run(full, input=many, capture_output=True, preexec_fn=lambda: small_files(100))
+    # Room for one number more.
+    room = len(before) + len(",4000000000")
+    done = subprocess.run(full, input=many, capture_output=True, preexec_fn=lambda: small_files(room))
     tally.same((done.returncode, list(folder.glob(".*.part"))), (3, []), "a disk that is full")
-    tally.check(kept.read_bytes().startswith(before[:40]) and kept.read_bytes().endswith(b"\n"), "a disk that is full")
+    tally.same(step_in(kept), "load 3 1,4000000000 - - - 2 2 2 2 8 8 8 8", "a full disk: the last that fits")
     empty = folder / "empty.txt"
     empty.touch()
     tally.same(run("book", "--keep", empty, given="request 0 1\n")[0], 0, "an empty file is a new book")
+    notes.write_text("# Mine.\n")
+    tally.same(run("book", "--keep", notes, given="request 0 1\n")[0], 0, "a file of notes is a new book")
+    tally.same(notes.read_text(), "# Mine.\nload 3 1 - - - 2 2 2 2 8 8 8 8\n", "notes stay")
 
 
 def two_sessions(tally, folder):

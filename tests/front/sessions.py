@@ -98,10 +98,12 @@ def test():
     said = "standard input: line 2: \ufffd\ufffd?[2J: expected one of"
     tally.check(done.returncode == 2 and done.stderr.decode().startswith(said), f"wild bytes: {done.stderr!r}")
     path_faults(tally)
-    typed = "request 0 1\nrequest 0 1\nhello\nhelp\ntake\nquit\n"
+    typed = "request 0 1\nrequest 0 1\nhello\nhelp\nset 5 2 2 12 6 6\ntake\nset 5 2 2 2 12 6 6 6\nquit\n"
     status, shown = at_terminal([str(LAUNCHER), "book"], typed)
     tally.same(status, 0, "status at the keyboard")
     for part in ("book> ", "request 1 of shipper 0 goes in", "refused 23: already waiting", "hello: expected one of"):
         tally.holds(shown, part, "keyboard")
     tally.holds(shown, "request 1 of shipper 0 is taken", "keyboard: after a bad line")
+    tally.holds(shown, f"\n{SET}\n", "keyboard: six figures")
+    tally.holds(shown, "the figures are replaced by those given\n  shipper 0  reserve 5  ceiling 12  ", "keyboard: set")
     return tally
