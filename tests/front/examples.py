@@ -61,7 +61,8 @@ SHOWN = {
     ),
     "agreement.txt": (
         "\n  shipper 0  reserve 5  ceiling 12  6 waiting: 101 102 103 104 105 106\n",
-        "\n  shipper 3  reserve 2  ceiling  6  0 waiting\n  commons: 2 of 5 in use\n",
+        "\n  shipper 1  reserve 1  ceiling  6  3 waiting: 201 202 203\n",
+        "\n  shipper 3  reserve 1  ceiling  6  0 waiting\n  commons: 3 of 8 in use\n",
         "request 201 of shipper 1 is taken",
         "request 102 of shipper 0 is taken",
     ),
