@@ -22,6 +22,9 @@ from front.steps import Steps
 
 SEED, CASES = 5, 1500
 AGREED = "set 5 2 2 2 12 6 6 6"
+AGREEMENTS = (
+    "5 1 1 1 12 6 6 6", "3 5 1 2 3 9 14 4", "1 1 1 1 1 2 3 16", "4 4 4 4 16 4 5 16", "13 1 1 1 16 1 1 2",
+)  # fmt: skip
 # A sound book, and what of it is changed: one rule is broken, and that rule is told.
 SOUND = Book(1, ((1, 2, 3, 4, 5, 6), (7,), (), (1, 9, 10)), Figures((5, 2, 2, 3), (12, 6, 6, 8)))
 BROKEN = (
@@ -178,6 +181,25 @@ def slips(tally, folder):
         tally.holds(page, f"refused 31: figures outside the rules{lines}", eight)
 
 
+def own_figures(tally, folder):
+    """By chance: 24 and 25 name the shipper's own figure and the book's own commons."""
+    chance, met = random.Random(SEED), set()
+    for figures in AGREEMENTS:
+        asks = (f"request {chance.choice((0, 0, 1, 2, 3))} {number}" for number in range(1, 40))
+        for told in session(folder, f"set {figures}", *asks)[2]:
+            if told["outcome"] == "accepted":
+                continue
+            book, number, who = told["book"], told["refusal"]["number"], int(told["step"].split()[1])
+            reserve, ceiling, commons = book["reserves"][who], book["ceilings"][who], book["commons"]
+            used_up = f"while the commons are used up, {commons} of {commons}"
+            full = used_up if commons else "since the book has no commons"
+            ends = {24: f"ceiling of {ceiling}", 25: f"reserve of {reserve} {full}"}[number]
+            expected = f"shipper {who} has {len(book['lines'][who])} waiting, range up to its {ends}"
+            tally.same([each["words"] for each in told["refusal"]["details"]], [expected], f"{figures}: {told['step']}")
+            met.add((number, commons > 0))
+    tally.same(met, {(24, True), (24, False), (25, True), (25, False)}, "refusals met, with commons and without")
+
+
 def unchanged(tally, folder):
     """Figures are replaced, the turn stays; a refusal changes nothing."""
     turn = ("request 1 5", "take")
@@ -210,6 +232,6 @@ def test():
             part(tally, program)
     as_told(tally)
     with tempfile.TemporaryDirectory() as folder:
-        for part in (slips, unchanged):
+        for part in (slips, own_figures, unchanged):
             part(tally, Path(folder))
     return tally
