@@ -219,6 +219,11 @@ def unchanged(tally, folder):
         for waiting, given in (("-", AGREED), ("9", AGREED), ("9", "set 0 0 0 0 0 0 0 0")):
             told = session(folder, f"load 3 {waiting} - - - {figures}", given)[2]
             tally.same((told[1]["refusal"]["number"], told[1]["book"]["sound"]), (20, False), f"{figures}: {given}")
+    told = session(folder, "load 9 - - - -", "take", "load 3 4,4 - - -", "take", "empty", "load 3 0 - - -", "book")[2]
+    details = [[each["words"] for each in own["refusal"]["details"]] for own in told if "refusal" in own]
+    last, twice = "last served is shipper 9, range 0 to 3", "request 4 waits more than once in the line of shipper 0"
+    zero = "shipper 0: request number is 0, range 1 to 4,294,967,295"
+    tally.same(details, [[last], [twice], [zero]], "what is wrong with the book that was given last")
     told = session(folder, AGREED, "empty")[2]
     tally.same(told[1]["book"]["reserves"] + told[1]["book"]["ceilings"], [2] * 4 + [8] * 4, "a new book's figures")
     told = session(folder, "load 2 1,2 - 3 - 5 2 2 2 12 6 6 6", "load 2 1,2 - 3 -")[2]

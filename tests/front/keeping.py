@@ -49,6 +49,13 @@ def by_agreement(tally, folder):
     kept = folder / "book.txt"
     tally.same(run("book", "--keep", kept, given="set 5 2 2 2 12 6 6 6\n")[0], 0, "figures set")
     tally.same(step_in(kept), "load 3 - - - - 5 2 2 2 12 6 6 6", "figures are kept")
+    for given, step in (
+        ("set 1 1 1 1 8 8 8 9", "load 3 - - - - 1 1 1 1 8 8 8 9"),
+        ("set 2 2 2 2 8 8 8 8\nset 1 1 1 1 8 8 8 9", "load 3 - - - - 1 1 1 1 8 8 8 9"),
+        ("request 3 55\nwithdraw 3 55", "load 3 - - - - 1 1 1 1 8 8 8 9"),
+        ("set 5 2 2 2 12 6 6 6", "load 3 - - - - 5 2 2 2 12 6 6 6"),
+    ):
+        tally.same((run("book", "--keep", kept, given=f"{given}\n")[0], step_in(kept)), (0, step), f"{given!r}, kept")
     asks = "".join(f"request 0 {number}\n" for number in range(1, 12))
     status, out, _ = run("book", "--keep", kept, given=asks)
     told = "shipper 0 has 10 waiting, range up to its reserve of 5 while the commons are used up, 5 of 5\n"
