@@ -14,15 +14,18 @@ use Rattle.book.proofs.Bools.{both-first, both-second}
 
 pub record Share (reserve ceiling : ℕ) : Type 0 where
   pub some : 1 ≤ reserve
+  pub most : reserve ≤ 13
   pub own : reserve ≤ ceiling
   pub narrow : ceiling ≤ 16
 
 share-is : (reserve ceiling : ℕ) → isShare reserve ceiling ≡ true → Share reserve ceiling
 unfolding isShare
 share-is reserve ceiling is =
-    let rest = both-second (leb reserve 13) _ (both-second (leb 1 reserve) _ is) in
+    let few = both-second (leb 1 reserve) _ is in
+    let rest = both-second (leb reserve 13) _ few in
     record {
       some = leb-true _ _ (both-first (leb 1 reserve) _ is);
+      most = leb-true _ _ (both-first (leb reserve 13) _ few);
       own = leb-true _ _ (both-first (leb reserve ceiling) _ rest);
       narrow = leb-true _ _ (both-second (leb reserve ceiling) _ rest);
     }

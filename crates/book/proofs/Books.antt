@@ -1,7 +1,7 @@
 -- What soundness tells of a book: its shape, its figures, each shipper's line, the commons, the last served; and that this is all of it.
 use mathlib.Core.Path.{_≡_, sym, ap, _∙_}
 use mathlib.Core.Bool.{true}
-use Prim.Native.Nat.{ℕ, _-_, _≤_, _<_}
+use Prim.Native.Nat.{ℕ, zero, suc, _-_, _≤_, _<_}
 use native.Mathlib.Omega.{arith}
 use borrow.Author.Tests.{leb-true, le-leb, ltb-true, lt-ltb, eqb-true, eq-eqb}
 use lib.Dec.{leb, eqb}
@@ -104,3 +104,20 @@ oldest-first book s some = getD-take (lineAt book s .count) (lineAt book s .numb
 pub holds-its-places : (book : Book) → SoundBook book → held book ≤ places book
 unfolding held places commonsUsed overShippers beyond commons reserve
 holds-its-places book is = let used = is .used in let sum = agreed-is (book .figures) (is .rules) .sum in omega arith
+
+-- and nobody more than 13, whatever its ceiling: each of the others has a place of its own
+own-places : (book : Book) → SoundBook book
+    → (overShippers (reserve book) ≤ 16) × (1 ≤ reserve book 0) × (1 ≤ reserve book 1) × (1 ≤ reserve book 2) × (1 ≤ reserve book 3)
+unfolding reserve overShippers
+own-places book is =
+    let rules = agreed-is (book .figures) (is .rules) in
+    let each = rules .each in
+    (rules .sum, each 0 (omega arith) .some, each 1 (omega arith) .some, each 2 (omega arith) .some, each 3 (omega arith) .some)
+
+pub holds-at-most-13 : (book : Book) → SoundBook book → (s : ℕ) → s < 4 → has book s ≤ 13
+unfolding commonsUsed overShippers beyond commons places
+holds-at-most-13 book is zero known = let used = is .used in let own = own-places book is in omega arith
+holds-at-most-13 book is (suc zero) known = let used = is .used in let own = own-places book is in omega arith
+holds-at-most-13 book is (suc (suc zero)) known = let used = is .used in let own = own-places book is in omega arith
+holds-at-most-13 book is (suc (suc (suc zero))) known = let used = is .used in let own = own-places book is in omega arith
+holds-at-most-13 book is (suc (suc (suc (suc s)))) known = absurd (omega arith)

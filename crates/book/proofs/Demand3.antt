@@ -4,35 +4,36 @@
 -- `commons`; the customer's, 2, 8 and 8, are those of a new book (`default-figures`).
 use mathlib.Core.Path.{_≡_, refl, sym, ap, _∙_, subst}
 use mathlib.Core.Logic.{⊎-elim}
-use mathlib.Core.Bool.{true, false, _||_, not, cond}
+use mathlib.Core.Bool.{Bool, true, false, _||_, not, cond}
 use mathlib.Core.List.{List, [], _∷_, _++_}
 use mathlib.Core.Option.{Option, none, some}
 use Prim.Native.Nat.{ℕ, suc, _+_, _*_, _-_, _≤_, _<_, _%_}
 use native.Mathlib.Nat.{lt-of-not-le}
 use native.Mathlib.Omega.{arith}
-use borrow.Author.Tests.{eq-eqb, ltb-false, le-ltb}
+use borrow.Author.Tests.{eq-eqb, ne-eqb, lt-ltb, ltb-false, le-ltb}
 use lib.Dec.{ltb, eqb}
 use lib.ListN.{length, getD, length-append, getD-replicate}
 use lib.Seq.{getD-append-seam}
 use Rattle.refusals.specs.Told.{Told, done, refused, demand, orElse, judged, leftBy}
-use Rattle.refusals.proofs.Laws.{judged-was, refused-not-done}
+use Rattle.refusals.proofs.Laws.{judged-was, refused-number, refused-not-done}
 use Rattle.octets.specs.FirstToLast.{placeIf}
 use Rattle.octets.specs.Lists.{isOneOf}
 use Rattle.octets.proofs.FirstToLast.{places as searched, same as searched-same}
 use Rattle.book.specs.Figures.{shippers, overShippers, reserveIn, ceilingIn, places, reserve, ceiling, commons, waitingOf, has, held, commonsUsed, defaultFigures}
+use Rattle.book.specs.Rules.{keepRules}
 use Rattle.book.specs.Sound.{isSound}
-use Rattle.book.specs.Calls.{callFault, hasRoom, entryFault, requestFault, requestOf, entered, afterRequest, ofTurn, hasAny, nextTurn, oldestOf, handedOut, takeOf}
-use Rattle.book.specs.Demand3.{SoundEmpty, Call, request, after, afterAll, answersTo, goesIn, isWithdrawn, isTaken, howOften, times, waits, fateOf, NoLaterThan}
+use Rattle.book.specs.Calls.{callFault, hasRoom, entryFault, requestFault, requestOf, entered, afterRequest, ofTurn, hasAny, nextTurn, oldestOf, handedOut, afterWithdrawal, takeOf, afterTake, settingFault, settingOf, agreed, afterSetting}
+use Rattle.book.specs.Demand3.{SoundEmpty, Call, request, withdrawal, take, setting, after, afterAll, answersTo, NoneSet, goesIn, isWithdrawn, isTaken, howOften, times, waits, fateOf, NoLaterThan}
 use Rattle.book.specs.declared.Book.{Book}
 use Rattle.book.specs.declared.Figures.{Figures}
 use Rattle.book.proofs.Agreed.{agreed-is}
-use Rattle.book.proofs.Books.{SoundBook, sound-is, is-sound, holds-its-places}
+use Rattle.book.proofs.Books.{SoundBook, sound-is, is-sound, holds-its-places, holds-at-most-13}
 use Rattle.book.proofs.Bools.{decided}
 use Rattle.book.proofs.Calls.{Accepted, accepted, request-in, room-reserve, room-commons}
 use Rattle.book.proofs.Counts.{balance}
 use Rattle.book.proofs.Empty.{nothing-waits}
 use Rattle.book.proofs.Fates.{Waits, begins, Comes, comes, no-later}
-use Rattle.book.proofs.Kept.{sound-after, sound-all, at-ceiling, at-proper, turn-known}
+use Rattle.book.proofs.Kept.{request-did, withdrawal-did, take-did, in-figures, out-figures, sound-after, sound-all, at-ceiling, at-proper, turn-known}
 use Rattle.book.proofs.Puts.{waiting-put}
 use Rattle.book.proofs.Waiting.{Stands, times-append, times-none, times-once, once}
 
@@ -43,6 +44,15 @@ unfolding places reserve ceiling commons overShippers reserveIn ceilingIn defaul
 default-figures book is =
     (λ shipper known. (ap (λ (f : Figures). reserveIn f shipper) is ∙ getD-replicate 4 shipper 2 0 known, ap (λ (f : Figures). ceilingIn f shipper) is ∙ getD-replicate 4 shipper 8 0 known),
     ap (λ (f : Figures). 16 - overShippers (reserveIn f)) is, refl)
+
+-- as they are for as long as no figures are set
+pub figures-stay : (calls : List Call) (book : Book) → NoneSet (answersTo calls book) → afterAll calls book .figures ≡ book .figures
+unfolding NoneSet answersTo afterAll after
+figures-stay [] book unset = refl
+figures-stay (request s x ∷ calls) book unset = figures-stay calls (afterRequest book s x) unset ∙ in-figures book (request-did book s x)
+figures-stay (withdrawal s x ∷ calls) book unset = figures-stay calls (afterWithdrawal book s x) unset ∙ out-figures book (withdrawal-did book s x)
+figures-stay (take ∷ calls) book unset = figures-stay calls (afterTake book) unset ∙ out-figures book (take-did book)
+figures-stay (setting figures ∷ calls) book unset = absurd unset
 
 -- (f) 'Start from a sound, empty book and make any requests, withdrawals and takes in any order': every call keeps a sound book sound.
 pub every-call-keeps-soundness : (call : Call) (book : Book) → isSound book ≡ true → isSound (after call book) ≡ true
@@ -81,9 +91,48 @@ module _ (book : Book) (is : isSound book ≡ true) (shipper : ℕ) (known : shi
         let full : commons book < suc (commonsUsed book) = lt-of-not-le free in
         omega arith
 
+    -- and then its number is 25
+    pub refused-is-25 : has book shipper < ceiling book shipper → (n at : ℕ) → requestOf book shipper number ≡ refused n at → n ≡ 25
+    unfolding requestOf requestFault callFault entryFault shippers
+    refused-is-25 below n at refusal =
+        ⊎-elim (λ room. absurd (refused-not-done (sym refusal ∙ goes-in below room)))
+        (λ full.
+        let found : requestOf book shipper number ≡ refused 25 0 =
+        rw (is, lt-ltb _ _ known, ne-eqb _ _ valid, new, lt-ltb _ _ below) (ap (λ (t : Bool). judged {A = Unit {0}} (demand t 25) tt) full) in
+        refused-number (sym refusal ∙ found)) (decided (hasRoom book shipper))
+
 -- 01, 'places 16': no sound book holds more in all.
 pub never-above-the-places : (book : Book) → isSound book ≡ true → held book ≤ places book
 never-above-the-places book is = holds-its-places book (sound-is book is)
+
+-- .. so that nobody has more than 13, whatever its ceiling: each of the others has a place of its own.
+pub never-above-13 : (book : Book) → isSound book ≡ true → (shipper : ℕ) → shipper < 4 → has book shipper ≤ 13
+never-above-13 book is = holds-at-most-13 book (sound-is book is)
+
+-- What a setting is answered, and the book that it leaves.
+module _ (book : Book) (figures : Figures) where
+  pub setting-20 : isSound book ≡ false → settingOf book figures ≡ refused 20 0
+  unfolding settingOf settingFault
+  setting-20 unsound = rw unsound
+
+  module _ (is : isSound book ≡ true) where
+    pub setting-30 : (held book ≡ 0 → ⊥) → settingOf book figures ≡ refused 30 0
+    unfolding settingOf settingFault
+    setting-30 any = rw (is, ne-eqb _ _ any)
+
+    module _ (empty : held book ≡ 0) where
+      pub setting-31 : keepRules figures ≡ false → settingOf book figures ≡ refused 31 0
+      unfolding settingOf settingFault
+      setting-31 outside = rw (is, eq-eqb _ _ empty, outside)
+
+      module _ (rules : keepRules figures ≡ true) where
+        pub setting-made : settingOf book figures ≡ done tt
+        unfolding settingOf settingFault
+        setting-made = rw (is, eq-eqb _ _ empty, rules)
+
+        pub setting-leaves : afterSetting book figures ≡ agreed book figures
+        unfolding afterSetting
+        setting-leaves = rw setting-made
 
 -- A request that went in, and whatever calls come later.
 module _ (book : Book) (s x : ℕ) (answer : requestOf book s x ≡ done tt) where

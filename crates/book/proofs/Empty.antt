@@ -23,6 +23,11 @@ use Rattle.book.proofs.Agreed.{agreed-is}
 use Rattle.book.proofs.Books.{SoundLine, SoundBook, sound-is, is-sound, few-at, has-count}
 use Rattle.book.proofs.Lines.{line-back}
 
+-- 2 and 8 for all keep the rules
+pub default-keep-rules : keepRules defaultFigures ≡ true
+unfolding keepRules areShares isShareAt isShare firstToLast shippers overShippers reserveIn ceilingIn defaultFigures
+default-keep-rules = refl
+
 -- with the figures of a new book, whoever was served last: its lines are sound, and nothing waits in them
 new-from : (last : ℕ) → last < 4 → SoundEmpty (record { lines = emptyBook .lines; last = last; figures = defaultFigures })
 unfolding emptyBook defaultFigures shippers overShippers places reserveIn ceilingIn keepRules areShares isShareAt isShare lineOf isSound areLinesSound isSoundAt isLineSound areProper zeroBetween isZeroAt firstToLast commonsUsed beyond held has waitingOf lineAt waiting reserve ceiling commons

@@ -71,7 +71,18 @@ setting-did book figures = by (settingFault book figures) (settable book figures
     by fine told = let it = told refl in was-set figures (it .empty) (it .rules)
     by (fault n at) told = no-set
 
--- the lines and the turn stay as they were
+-- a request, a withdrawal and a take leave the figures
+pub in-figures : (book : Book) {answer : Answer} {left : Book} → In book answer left → left .figures ≡ book .figures
+unfolding entered put
+in-figures book (no-in n at) = refl
+in-figures book (went-in s x told) = refl
+
+pub out-figures : (book : Book) {answer : Answer} {left : Book} → Out book answer left → left .figures ≡ book .figures
+unfolding removed put
+out-figures book (no-out n at) = refl
+out-figures book (went-out s x last known waits turn) = refl
+
+-- a setting leaves the lines and the turn
 pub set-line : (book : Book) {left : Book} (s : ℕ) → Set book left → waitingOf left s ≡ waitingOf book s
 unfolding agreed waitingOf lineAt
 set-line book s no-set = refl

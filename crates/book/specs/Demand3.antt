@@ -68,6 +68,14 @@ takes (step (withdrawal shipper number) answer ∷ steps) = takes steps
 takes (step take answer ∷ steps) = suc (takes steps)
 takes (step (setting figures) answer ∷ steps) = takes steps
 
+-- No figures were set between.
+unfoldable pub NoneSet : List Step → Type 0
+NoneSet [] = Unit {0}
+NoneSet (step (request shipper number) answer ∷ steps) = NoneSet steps
+NoneSet (step (withdrawal shipper number) answer ∷ steps) = NoneSet steps
+NoneSet (step take answer ∷ steps) = NoneSet steps
+NoneSet (step (setting figures) answer ∷ steps) = ⊥
+
 -- The answer is that this request went in, was withdrawn or was handed out.
 abbrev pub grants : ℕ → ℕ → Answer → Bool
 grants shipper number (done handed) = eqb shipper (handed .shipper) && eqb number (handed .number)

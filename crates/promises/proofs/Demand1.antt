@@ -50,12 +50,14 @@ use Rattle.live.specs.Live.{wholeOf, psiOk, liveOf}
 use Rattle.live.specs.Panel.{panelTemperatureOf, panelPressureOf}
 use Rattle.live.proofs.Answers.{singleFault, live-judged}
 use Rattle.octets.specs.Lists.{isOneOf}
-use Rattle.book.specs.Figures.{shippers, ceiling, waitingOf, has}
+use Rattle.book.specs.Figures.{shippers, ceiling, waitingOf, has, held}
+use Rattle.book.specs.Rules.{keepRules}
 use Rattle.book.specs.Sound.{isSound}
-use Rattle.book.specs.Calls.{callFault, hasRoom, entryFault, requestFault, requestOf, afterRequest, withdrawalFault, withdrawalOf, afterWithdrawal, nextTurn, handedOut, takeOf, afterTake}
+use Rattle.book.specs.Calls.{callFault, hasRoom, entryFault, requestFault, requestOf, afterRequest, withdrawalFault, withdrawalOf, afterWithdrawal, nextTurn, handedOut, takeOf, afterTake, settingFault, settingOf, afterSetting, commonsOf}
 use Rattle.book.specs.declared.Book.{Book}
+use Rattle.book.specs.declared.Figures.{Figures as BookFigures}
 use lib.Ieee.Scale.{finite}
-use Rattle.promises.specs.Numbers.{settingNumbers, liquidNumbers, jobNumbers, provingNumbers, recordNumbers, runNumbers, drawNumbers, passesNumbers, fillNumbers, ticketNumbers, liveNumbers, panelNumbers, requestNumbers, withdrawalNumbers, takeNumbers, readNumbers, writeNumbers}
+use Rattle.promises.specs.Numbers.{settingNumbers, liquidNumbers, jobNumbers, provingNumbers, recordNumbers, runNumbers, drawNumbers, passesNumbers, fillNumbers, ticketNumbers, liveNumbers, panelNumbers, requestNumbers, withdrawalNumbers, takeNumbers, agreementNumbers, commonsNumbers, readNumbers, writeNumbers}
 use Rattle.promises.specs.Ending.{markedOf, recordOk, refusalOk, Ends}
 use Rattle.promises.proofs.Endings.{Finds, by-demand, by-demandAt, by-orElse, by-scan, by-unless, by-judged, by-nine, as-told}
 
@@ -237,6 +239,16 @@ pub take-ends : (book : Book) → Ends takeNumbers 0 0 (takeOf book)
 unfolding takeOf isOneOf markedOf recordOk refusalOk
 take-ends book = by-unless (by-demand (isSound book) 20 refl) (handed-ends book (nextTurn book))
 
+-- 02: '30 for setting a book that isn't empty, 31 for figures outside the rules, after 20'
+pub setting-ends : (book : Book) (figures : BookFigures) → Ends agreementNumbers 0 0 (settingOf book figures)
+unfolding settingOf settingFault isOneOf markedOf recordOk refusalOk
+setting-ends book figures =
+    by-judged _ (by-orElse (by-demand (isSound book) 20 refl) (by-orElse (by-demand (eqb (held book) 0) 30 refl) (by-demand (keepRules figures) 31 refl)))
+
+pub commons-end : (book : Book) → Ends commonsNumbers 0 0 (commonsOf book)
+unfolding commonsOf isOneOf markedOf recordOk refusalOk
+commons-end book = by-judged _ (by-demand (isSound book) 20 refl)
+
 -- ---- 'A refusal writes nothing into a lent buffer': `leftBy t found` is the buffer that the writer and the job leave where they tell t
 
 pub left-as-found : {A B : Type 0} {t : Told A} {number at : ℕ} (leaves : A → B) (found : B) → t ≡ refused number at → leftBy t leaves found ≡ found
@@ -255,3 +267,7 @@ withdrawal-leaves-book book shipper x is = left-as-found _ book is
 pub take-leaves-book : (book : Book) {number at : ℕ} → takeOf book ≡ refused number at → afterTake book ≡ book
 unfolding afterTake
 take-leaves-book book is = left-as-found _ book is
+
+pub setting-leaves-book : (book : Book) (figures : BookFigures) {number at : ℕ} → settingOf book figures ≡ refused number at → afterSetting book figures ≡ book
+unfolding afterSetting
+setting-leaves-book book figures is = left-as-found _ book is

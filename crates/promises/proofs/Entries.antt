@@ -6,7 +6,7 @@ use Rattle.promises.specs.Arguments.{first, second, third, fourth, fifth
 use Rattle.promises.specs.Entries.{Entries}
 use Rattle.promises.proofs.Endings.{as-told}
 use Rattle.promises.proofs.Demand1.{cts-ends, cps-ends, cpl-ends, worked-ends, shown-ends, job-ends, none-when-refused, write-ends, read-ends, fill-ends, volumes-end, draw-ends}
-use Rattle.promises.proofs.Demand1.{ticket-ends, live-ends, panel-temperature-ends, panel-pressure-ends, request-ends, withdrawal-ends, take-ends, left-as-found, request-leaves-book, withdrawal-leaves-book, take-leaves-book}
+use Rattle.promises.proofs.Demand1.{ticket-ends, live-ends, panel-temperature-ends, panel-pressure-ends, request-ends, withdrawal-ends, take-ends, setting-ends, commons-end, left-as-found, request-leaves-book, withdrawal-leaves-book, take-leaves-book, setting-leaves-book}
 
 pub entries : Entries
 entries =
@@ -35,4 +35,7 @@ entries =
       withdraw-leaves = λ κ a r x p is. p .1 ∙ withdrawal-leaves-book (first a) (second a) (third a) (sym (p .0) ∙ is);
       take-entry = λ κ a r x p. as-told (p .0) (take-ends (first a));
       take-leaves = λ κ a r x p is. p .1 ∙ take-leaves-book (first a) (sym (p .0) ∙ is);
+      set-figures-entry = λ κ a r x p. as-told (p .0) (setting-ends (first a) (second a));
+      set-figures-leaves = λ κ a r x p is. p .1 ∙ setting-leaves-book (first a) (second a) (sym (p .0) ∙ is);
+      tell-commons-entry = λ κ a r x p. as-told p (commons-end (first a));
     }

@@ -16,7 +16,7 @@ use Rattle.draw.specs.Answers.{countOf, heldFor}
 use Rattle.draw.specs.declared.Profile.{Profile}
 use Rattle.draw.specs.declared.Profile.the-variants.{Unidirectional, Bidirectional}
 use Rattle.api.specs.Given.{pipeBy, liquidBy, proverBy, factorsBy, ticketBy}
-use Rattle.api.specs.Flat.{partOf, flatPasses, noReport, noFigures, noFill, noBase, noVolumes, noReading, nothingShown, noHandout}
+use Rattle.api.specs.Flat.{partOf, flatPasses, noReport, noFigures, noFill, noBase, noVolumes, noReading, nothingShown, noHandout, noCommons}
 use Rattle.api.specs.declared.jobs.EndakuroPart.{EndakuroPart}
 use Rattle.api.specs.declared.quotients.EndakuroQuotient.{EndakuroQuotient}
 use Rattle.api.specs.declared.water.EndakuroPasses.{EndakuroPasses}
@@ -24,9 +24,9 @@ use Rattle.promises.specs.Numbers.{passesNumbers}
 use Rattle.promises.specs.Arguments.{first, second, third, fourth, fifth, sixth}
 use Rattle.promises.specs.FlatEnding.{FlatEnds, byKind, passesIn}
 use Rattle.promises.specs.EntriesC.{EntriesC}
-use Rattle.promises.proofs.FlatEndings.{flat-ends, flat-leaves, done-at-zero, refused-at-other, factor-back, report-back, run-back, fill-back, passes-back, volumes-back, draw-back, ticket-back, live-back, panel-back, change-back, take-back, quotient-back, no-quotient}
-use Rattle.promises.proofs.Demand1.{cts-ends, cps-ends, cpl-ends, shown-ends, job-ends, write-ends, read-ends, fill-ends, volumes-end, draw-ends, ticket-ends, live-ends, panel-temperature-ends, panel-pressure-ends, request-ends, withdrawal-ends, take-ends}
-use Rattle.promises.proofs.Demand1.{left-as-found, request-leaves-book, withdrawal-leaves-book, take-leaves-book}
+use Rattle.promises.proofs.FlatEndings.{flat-ends, flat-leaves, done-at-zero, refused-at-other, factor-back, report-back, run-back, fill-back, passes-back, volumes-back, draw-back, ticket-back, live-back, panel-back, change-back, take-back, commons-back, quotient-back, no-quotient}
+use Rattle.promises.proofs.Demand1.{cts-ends, cps-ends, cpl-ends, shown-ends, job-ends, write-ends, read-ends, fill-ends, volumes-end, draw-ends, ticket-ends, live-ends, panel-temperature-ends, panel-pressure-ends, request-ends, withdrawal-ends, take-ends, setting-ends, commons-end}
+use Rattle.promises.proofs.Demand1.{left-as-found, request-leaves-book, withdrawal-leaves-book, take-leaves-book, setting-leaves-book}
 
 -- start and length in the lent records are the accepted runs
 part-accepted : (t : Told ℕ) (s : List ℕ) → take (partOf t .length) (drop (partOf t .start) s) ≡ acceptedBy runSize t s
@@ -109,6 +109,9 @@ entries-c =
       withdraw-leaves = λ shipper number found left r p. flat-leaves (flat-ends refl tt change-back (p .0) (withdrawal-ends found shipper number)) (λ n at is. p .1 ∙ withdrawal-leaves-book found shipper number is);
       take-entry = λ found left r p. flat-ends refl noHandout take-back (p .0) (take-ends found);
       take-leaves = λ found left r p. flat-leaves (flat-ends refl noHandout take-back (p .0) (take-ends found)) (λ n at is. p .1 ∙ take-leaves-book found is);
+      set-figures-entry = λ figures found left r p. flat-ends refl tt change-back (p .0) (setting-ends found figures);
+      set-figures-leaves = λ figures found left r p. flat-leaves (flat-ends refl tt change-back (p .0) (setting-ends found figures)) (λ n at is. p .1 ∙ setting-leaves-book found figures is);
+      commons-entry = λ found r p. flat-ends refl noCommons commons-back p (commons-end found);
       empty-entry = λ κ a r x p. p;
       ratio-means = λ κ a r x p. ap (λ (f : EndakuroQuotient). byKind (f .kind) (f .value)) p ∙ quotient-back (quotientOf (first a * second a) (third a));
       ratio-no-value = λ κ a r x p some. value-of p ∙ no-quotient (quotientOf (first a * second a) (third a)) (λ zero. some (kind-of p ∙ zero));

@@ -33,16 +33,18 @@ use Rattle.live.specs.Panel.{told as toldPanel}
 use Rattle.live.specs.declared.panel.Panel.{Panel}
 use Rattle.live.specs.declared.panel.Panel.the-variants as panel
 use Rattle.live.proofs.Answers.{told-one as live-one, panel-one}
-use Rattle.book.specs.Answers.{toldChange, toldTake}
+use Rattle.book.specs.Answers.{toldChange, toldTake, toldCommons}
 use Rattle.book.specs.declared.Change.{Change}
 use Rattle.book.specs.declared.Change.the-variants as change
 use Rattle.book.specs.declared.Handout.{Handout}
 use Rattle.book.specs.declared.Handout.the-variants as handout
-use Rattle.book.proofs.Outcomes.{change-one, handout-one}
+use Rattle.book.specs.declared.Commons.{Commons}
+use Rattle.book.specs.declared.Commons.the-variants as commons
+use Rattle.book.proofs.Outcomes.{change-one, handout-one, commons-one}
 use Rattle.api.specs.declared.quotients.EndakuroQuotient.{EndakuroQuotient}
 use Rattle.promises.specs.FlatEnding.{Flat, byKind, passesIn}
 use Rattle.promises.specs.Flattened.{LosesNothing, Flattened}
-use Rattle.promises.proofs.FlatEndings.{held, ReadBack, factor-back, report-back, run-back, fill-back, passes-back, volumes-back, draw-back, ticket-back, live-back, panel-back, change-back, take-back, quotient-back}
+use Rattle.promises.proofs.FlatEndings.{held, ReadBack, factor-back, report-back, run-back, fill-back, passes-back, volumes-back, draw-back, ticket-back, live-back, panel-back, change-back, take-back, commons-back, quotient-back}
 
 -- what is told is done, or refused with a number that is not 0
 abbrev Numbered : {A : Type 0} → Told A → Type 0
@@ -107,6 +109,10 @@ take-numbered : (a : Handout) → Numbered (toldTake a)
 take-numbered (handout.Handed shipper number) = tt
 take-numbered (handout.Refused why) = not-zero why
 
+commons-numbered : (a : Commons) → Numbered (toldCommons a)
+commons-numbered (commons.Shared all used) = tt
+commons-numbered (commons.Refused why) = not-zero why
+
 pub flattened : Flattened
 flattened =
     record {
@@ -124,5 +130,6 @@ flattened =
       panel-loses-nothing = loses-nothing panel-back panel-one panel-numbered;
       change-loses-nothing = loses-nothing change-back change-one change-numbered;
       take-loses-nothing = loses-nothing take-back handout-one take-numbered;
+      commons-lose-nothing = loses-nothing commons-back commons-one commons-numbered;
       quotient-loses-nothing = λ a b is. sym (quotient-back a) ∙ ap (λ (f : EndakuroQuotient). byKind (f .kind) (f .value)) is ∙ quotient-back b;
     }

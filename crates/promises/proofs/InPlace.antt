@@ -18,7 +18,7 @@ use Rattle.promises.specs.Outcome.{OneChange}
 use Rattle.promises.specs.InPlace.{Changes, InPlaceSays, InPlace}
 use Rattle.promises.proofs.OneOutcome.{same}
 use Rattle.promises.proofs.Endings.{as-told}
-use Rattle.promises.proofs.Demand1.{request-ends, withdrawal-ends, take-ends, request-leaves-book, withdrawal-leaves-book, take-leaves-book}
+use Rattle.promises.proofs.Demand1.{request-ends, withdrawal-ends, take-ends, setting-ends, request-leaves-book, withdrawal-leaves-book, take-leaves-book, setting-leaves-book}
 
 pub in-place-says : {M : Type 1} (𝓤 : URA M) (H : Heap 𝓤) (κs : Lfts 1) (A : Atoms 𝓤) (at-mem : Memory → SProp 𝓤) (run : Routine → Fun 𝓤) → InPlaceSays 𝓤 H κs A at-mem run
 in-place-says 𝓤 H κs A at-mem run =
@@ -26,9 +26,11 @@ in-place-says 𝓤 H κs A at-mem run =
       request-says = λ _ _ _ _ _ _ _. refl;
       withdraw-says = λ _ _ _ _ _ _ _. refl;
       take-says = λ _ _ _. refl;
+      set-figures-says = λ _ _ _ _ _. refl;
       request-asks-nothing = λ _ _. id⊢ 𝓤 (emp 𝓤);
       withdraw-asks-nothing = λ _ _. id⊢ 𝓤 (emp 𝓤);
       take-asks-nothing = λ _ _. id⊢ 𝓤 (emp 𝓤);
+      set-figures-asks-nothing = λ _ _. id⊢ 𝓤 (emp 𝓤);
     }
 
 -- the same answer, and the same book left
@@ -47,4 +49,7 @@ in-place =
       take-one = λ found left left′ r q p p′. (handout-one r q (same (p .0) (p′ .0)), same (p .1) (p′ .1));
       take-ends = λ found left r p. as-told (p .0) (take-ends found);
       take-leaves = λ found left r p is. p .1 ∙ take-leaves-book found (sym (p .0) ∙ is);
+      set-figures-one = λ figures found left left′ r q p p′. (change-one r q (same (p .0) (p′ .0)), same (p .1) (p′ .1));
+      set-figures-ends = λ figures found left r p. as-told (p .0) (setting-ends found figures);
+      set-figures-leaves = λ figures found left r p is. p .1 ∙ setting-leaves-book found figures (sym (p .0) ∙ is);
     }

@@ -17,10 +17,14 @@ in-place-says-c 𝓤 H κs A at-mem run =
       request-says = λ _ _ _ _ _ _ _. refl;
       withdraw-says = λ _ _ _ _ _ _ _. refl;
       take-says = λ _ _ _. refl;
+      set-figures-says = λ _ _ _ _ _. refl;
+      commons-says = λ _ _ _. refl;
       is-sound-says = λ _ _ _. refl;
       request-asks-nothing = λ _ _. id⊢ 𝓤 (emp 𝓤);
       withdraw-asks-nothing = λ _ _. id⊢ 𝓤 (emp 𝓤);
       take-asks-nothing = λ _ _. id⊢ 𝓤 (emp 𝓤);
+      set-figures-asks-nothing = λ _ _. id⊢ 𝓤 (emp 𝓤);
+      commons-asks-nothing = λ _ _. id⊢ 𝓤 (emp 𝓤);
       is-sound-asks-nothing = λ _ _. id⊢ 𝓤 (emp 𝓤);
     }
 
@@ -30,5 +34,7 @@ in-place-c =
       request-one = λ _ _ _ _ _ _ _ p p′. (same (p .0) (p′ .0), same (p .1) (p′ .1));
       withdraw-one = λ _ _ _ _ _ _ _ p p′. (same (p .0) (p′ .0), same (p .1) (p′ .1));
       take-one = λ _ _ _ _ _ p p′. (same (p .0) (p′ .0), same (p .1) (p′ .1));
+      set-figures-one = λ _ _ _ _ _ _ p p′. (same (p .0) (p′ .0), same (p .1) (p′ .1));
+      commons-one = λ _ _ _. same;
       is-sound-one = λ _ _ _. same;
     }

@@ -27,3 +27,4 @@ pub mod Flattened
 pub mod EntriesC
 pub mod Sessions
 pub mod Demand3
+pub mod Agreement

@@ -9,7 +9,7 @@ use Rattle.report.proofs.Laws.{told-one as report-one}
 use Rattle.draw.proofs.Outcome.{fill-one, count-one, draw-one}
 use Rattle.ticket.proofs.Laws.{told-one as ticket-one}
 use Rattle.live.proofs.Answers.{told-one as live-one, panel-one}
-use Rattle.book.proofs.Outcomes.{changed-one, handout-one}
+use Rattle.book.proofs.Outcomes.{changed-one, commons-one, handout-one}
 use Rattle.promises.specs.OneOutcome.{OneOutcome}
 
 -- two that are equal to a third are equal
@@ -101,4 +101,6 @@ one-outcome =
       book-request-one = (λ _ _. tt, λ _ _ r q _ _ p p′. changed-one r q (same (p .0) (p′ .0)) (same (p .1) (p′ .1)));
       book-withdraw-one = (λ _ _. tt, λ _ _ r q _ _ p p′. changed-one r q (same (p .0) (p′ .0)) (same (p .1) (p′ .1)));
       book-take-one = (λ _ _. tt, λ _ _ r q _ _ p p′ i. record { book = same (p .1) (p′ .1) i; answer = handout-one (r .answer) (q .answer) (same (p .0) (p′ .0)) i });
+      book-set-figures-one = (λ _ _. tt, λ _ _ r q _ _ p p′. changed-one r q (same (p .0) (p′ .0)) (same (p .1) (p′ .1)));
+      book-tell-commons-one = (λ _ _. tt, λ _ _ r q _ _ p p′. commons-one r q (same p p′));
     }

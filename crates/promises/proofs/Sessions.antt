@@ -9,20 +9,22 @@ use lib.Dec.{ltb, eqb}
 use Rattle.refusals.specs.Told.{Told, refused, Fault, fine, fault, demand, orElse, unless, judged}
 use Rattle.refusals.specs.Table.{numberOf, recordOf}
 use Rattle.refusals.specs.declared.Refusal.{Refusal}
-use Rattle.refusals.specs.declared.Refusal.the-variants.{BookNotSound, UnknownShipper, NumberZero, AlreadyWaiting, CeilingReached, CommonsFull, NotWaiting, NothingToTake}
+use Rattle.refusals.specs.declared.Refusal.the-variants.{BookNotSound, UnknownShipper, NumberZero, AlreadyWaiting, CeilingReached, CommonsFull, NotWaiting, NothingToTake, BookNotEmpty, FiguresOutside}
 use Rattle.octets.specs.Lists.{isOneOf}
 use Rattle.book.specs.Answers.{Handed, toldChange, toldTake}
-use Rattle.book.specs.Figures.{shippers, ceiling, waitingOf, has}
-use Rattle.book.specs.Calls.{callFault, hasRoom, entryFault, requestFault, requestOf, afterRequest, withdrawalFault, withdrawalOf, afterWithdrawal, nextTurn, oldestOf, handedOut, takeOf, afterTake}
-use Rattle.book.specs.Demand3.{Call, request, withdrawal, take, Answer, answerTo, after, afterAll, Step, step, answersTo}
+use Rattle.book.specs.Figures.{shippers, ceiling, waitingOf, has, held}
+use Rattle.book.specs.Rules.{keepRules}
+use Rattle.book.specs.Calls.{callFault, hasRoom, entryFault, requestFault, requestOf, afterRequest, withdrawalFault, withdrawalOf, afterWithdrawal, nextTurn, oldestOf, handedOut, takeOf, afterTake, settingFault, settingOf, afterSetting}
+use Rattle.book.specs.Demand3.{Call, request, withdrawal, take, setting, Answer, noRequest, answerTo, after, afterAll, Step, step, answersTo}
 use Rattle.book.specs.Sound.{isSound}
 use Rattle.book.specs.declared.Book.{Book}
 use Rattle.book.specs.declared.Change.{Change}
+use Rattle.book.specs.declared.Figures.{Figures}
 use Rattle.book.specs.declared.Change.the-variants.{Made, Refused}
 use Rattle.book.specs.declared.Handout.{Handout}
 use Rattle.book.specs.declared.Handout.the-variants as handout
 use Rattle.api.specs.Flat.{flatDone, flatTaken}
-use Rattle.promises.specs.Sessions.{Contracts, Session, about, ByValue, KeptInPlace, FromC, callsOf, AsMeant, Sessions}
+use Rattle.promises.specs.Sessions.{Contracts, Session, about, aboutNone, ByValue, KeptInPlace, FromC, callsOf, AsMeant, Sessions}
 use Rattle.promises.proofs.EntriesC.{entries-c}
 
 -- ---- a session of calls that each do what they mean
@@ -87,6 +89,12 @@ tells-withdrawal : (book : Book) (shipper number : ℕ) → Tells (withdrawalFau
 unfolding withdrawalFault
 tells-withdrawal book shipper number = tells-orElse _ _ (tells-call book shipper number) (tells-demand (isOneOf number (waitingOf book shipper)) NotWaiting refl)
 
+tells-setting : (book : Book) (figures : Figures) → Tells (settingFault book figures)
+unfolding settingFault
+tells-setting book figures =
+    tells-orElse _ _ (tells-demand (isSound book) BookNotSound refl)
+    (tells-orElse _ _ (tells-demand (eqb (held book) 0) BookNotEmpty refl) (tells-demand (keepRules figures) FiguresOutside refl))
+
 tells-take : (book : Book) → (r : Handout) × (toldTake r ≡ takeOf book)
 unfolding takeOf handedOut oldestOf
 tells-take book = by (isSound book) (nextTurn book)
@@ -100,16 +108,20 @@ tells-take book = by (isSound book) (nextTurn book)
 told-about : (shipper number : ℕ) (f : Fault) (t : Told Unit) → t ≡ judged f tt → about shipper number t ≡ judged f (record { shipper = shipper; number = number })
 told-about shipper number f t is = ap (about shipper number) is ∙ about-judged shipper number f
 
+told-about-none : (f : Fault) (t : Told Unit) → t ≡ judged f tt → aboutNone t ≡ judged f noRequest
+told-about-none f t is = told-about 0 0 f t is
+
 -- ---- by value
 
 by-value-gives : Gives ByValue
-unfolding ByValue answerTo after requestOf withdrawalOf
+unfolding ByValue answerTo after requestOf withdrawalOf settingOf
 by-value-gives (request s x) found answer left (r, post, told, back) = (told ∙ told-about s x (requestFault found s x) _ (post .0), back ∙ post .1)
 by-value-gives (withdrawal s x) found answer left (r, post, told, back) = (told ∙ told-about s x (withdrawalFault found s x) _ (post .0), back ∙ post .1)
 by-value-gives take found answer left (r, post, told, back) = (told ∙ post .0, back ∙ post .1)
+by-value-gives (setting f) found answer left (r, post, told, back) = (told ∙ told-about-none (settingFault found f) _ (post .0), back ∙ post .1)
 
 by-value-meets : Meets ByValue
-unfolding ByValue answerTo after requestOf withdrawalOf
+unfolding ByValue answerTo after requestOf withdrawalOf settingOf
 by-value-meets (request s x) found =
     let t = tells-request found s x in
     (record { book = afterRequest found s x; answer = t .case }, (t .tells, refl), sym (told-about s x (requestFault found s x) _ (t .tells)), refl)
@@ -117,36 +129,44 @@ by-value-meets (withdrawal s x) found =
     let t = tells-withdrawal found s x in
     (record { book = afterWithdrawal found s x; answer = t .case }, (t .tells, refl), sym (told-about s x (withdrawalFault found s x) _ (t .tells)), refl)
 by-value-meets take found = let t = tells-take found in (record { book = afterTake found; answer = t .0 }, (t .1, refl), sym (t .1), refl)
+by-value-meets (setting f) found =
+    let t = tells-setting found f in
+    (record { book = afterSetting found f; answer = t .case }, (t .tells, refl), sym (told-about-none (settingFault found f) _ (t .tells)), refl)
 
 -- ---- in place
 
 in-place-gives : Gives KeptInPlace
-unfolding KeptInPlace answerTo after requestOf withdrawalOf
+unfolding KeptInPlace answerTo after requestOf withdrawalOf settingOf
 in-place-gives (request s x) found answer left (r, post, told) = (told ∙ told-about s x (requestFault found s x) _ (post .0), post .1)
 in-place-gives (withdrawal s x) found answer left (r, post, told) = (told ∙ told-about s x (withdrawalFault found s x) _ (post .0), post .1)
 in-place-gives take found answer left (r, post, told) = (told ∙ post .0, post .1)
+in-place-gives (setting f) found answer left (r, post, told) = (told ∙ told-about-none (settingFault found f) _ (post .0), post .1)
 
 in-place-meets : Meets KeptInPlace
-unfolding KeptInPlace answerTo after requestOf withdrawalOf
+unfolding KeptInPlace answerTo after requestOf withdrawalOf settingOf
 in-place-meets (request s x) found = let t = tells-request found s x in (t .case, (t .tells, refl), sym (told-about s x (requestFault found s x) _ (t .tells)))
 in-place-meets (withdrawal s x) found = let t = tells-withdrawal found s x in (t .case, (t .tells, refl), sym (told-about s x (withdrawalFault found s x) _ (t .tells)))
 in-place-meets take found = let t = tells-take found in (t .0, (t .1, refl), sym (t .1))
+in-place-meets (setting f) found = let t = tells-setting found f in (t .case, (t .tells, refl), sym (told-about-none (settingFault found f) _ (t .tells)))
 
 -- ---- from C: what is read of the struct is its meaning
 
 from-c-gives : Gives FromC
-unfolding FromC answerTo after requestOf withdrawalOf
+unfolding FromC answerTo after requestOf withdrawalOf settingOf
 from-c-gives (request s x) found answer left (r, post, told) = (told ∙ told-about s x (requestFault found s x) _ (entries-c .request-entry s x found left r post .means), post .1)
 from-c-gives (withdrawal s x) found answer left (r, post, told) = (told ∙ told-about s x (withdrawalFault found s x) _ (entries-c .withdraw-entry s x found left r post .means), post .1)
 from-c-gives take found answer left (r, post, told) = (told ∙ entries-c .take-entry found left r post .means, post .1)
+from-c-gives (setting f) found answer left (r, post, told) = (told ∙ told-about-none (settingFault found f) _ (entries-c .set-figures-entry f found left r post .means), post .1)
 
 from-c-meets : Meets FromC
-unfolding FromC answerTo after requestOf withdrawalOf
+unfolding FromC answerTo after requestOf withdrawalOf settingOf
 from-c-meets (request s x) found =
     (flatDone (requestOf found s x), (refl, refl), sym (told-about s x (requestFault found s x) _ (entries-c .request-entry s x found (afterRequest found s x) _ (refl, refl) .means)))
 from-c-meets (withdrawal s x) found =
     (flatDone (withdrawalOf found s x), (refl, refl), sym (told-about s x (withdrawalFault found s x) _ (entries-c .withdraw-entry s x found (afterWithdrawal found s x) _ (refl, refl) .means)))
 from-c-meets take found = (flatTaken (takeOf found), (refl, refl), sym (entries-c .take-entry found (afterTake found) _ (refl, refl) .means))
+from-c-meets (setting f) found =
+    (flatDone (settingOf found f), (refl, refl), sym (told-about-none (settingFault found f) _ (entries-c .set-figures-entry f found (afterSetting found f) _ (refl, refl) .means)))
 
 pub sessions : Sessions
 sessions =

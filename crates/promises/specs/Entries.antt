@@ -17,7 +17,7 @@ use Rattle.draw.specs.Answers.{toldFill, toldCount, toldDraw}
 use Rattle.ticket.specs.Answers.{told as toldTicket}
 use Rattle.live.specs.Live.{told as toldLive}
 use Rattle.live.specs.Panel.{told as toldPanel}
-use Rattle.book.specs.Answers.{toldChange, toldTake}
+use Rattle.book.specs.Answers.{toldChange, toldTake, toldCommons}
 use Rattle.factors.proofs.cts.Reads as cts
 use Rattle.factors.proofs.cps.Reads as cps
 use Rattle.factors.proofs.cpl.Reads as cpl
@@ -37,7 +37,9 @@ use Rattle.live.proofs.panel.show_pressure.Reads as show-pressure
 use Rattle.book.proofs.request.Reads as request
 use Rattle.book.proofs.withdraw.Reads as withdraw
 use Rattle.book.proofs.take.Reads as take
-use Rattle.promises.specs.Numbers.{settingNumbers, liquidNumbers, jobNumbers, recordNumbers, runNumbers, drawNumbers, passesNumbers, fillNumbers, ticketNumbers, liveNumbers, panelNumbers, requestNumbers, withdrawalNumbers, takeNumbers, readNumbers, writeNumbers}
+use Rattle.book.proofs.set_figures.Reads as set-figures
+use Rattle.book.proofs.tell_commons.Reads as tell-commons
+use Rattle.promises.specs.Numbers.{settingNumbers, liquidNumbers, jobNumbers, recordNumbers, runNumbers, drawNumbers, passesNumbers, fillNumbers, ticketNumbers, liveNumbers, panelNumbers, requestNumbers, withdrawalNumbers, takeNumbers, agreementNumbers, commonsNumbers, readNumbers, writeNumbers}
 use Rattle.promises.specs.Arguments.{first, second, third, fourth, fifth, sixth}
 use Rattle.promises.specs.Ending.{Ends}
 
@@ -70,3 +72,6 @@ pub record Entries : Type 0 where
   pub withdraw-leaves : (κ : _) (a : _) (r : _) (x : _) {number at : ℕ} → withdraw.Post κ a r x → toldChange (r .answer) ≡ refused number at → r .book ≡ first a
   pub take-entry : (κ : _) (a : _) (r : _) (x : _) → take.Post κ a r x → Ends takeNumbers 0 0 (toldTake (r .answer))
   pub take-leaves : (κ : _) (a : _) (r : _) (x : _) {number at : ℕ} → take.Post κ a r x → toldTake (r .answer) ≡ refused number at → r .book ≡ first a
+  pub set-figures-entry : (κ : _) (a : _) (r : _) (x : _) → set-figures.Post κ a r x → Ends agreementNumbers 0 0 (toldChange (r .answer))
+  pub set-figures-leaves : (κ : _) (a : _) (r : _) (x : _) {number at : ℕ} → set-figures.Post κ a r x → toldChange (r .answer) ≡ refused number at → r .book ≡ first a
+  pub tell-commons-entry : (κ : _) (a : _) (r : _) (x : _) → tell-commons.Post κ a r x → Ends commonsNumbers 0 0 (toldCommons r)

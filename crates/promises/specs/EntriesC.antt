@@ -21,12 +21,14 @@ use Rattle.ticket.specs.Answers.{ticketOf}
 use Rattle.live.specs.Live.{liveOf}
 use Rattle.live.specs.Panel.{panelTemperatureOf, panelPressureOf}
 use Rattle.book.specs.Figures.{emptyBook}
-use Rattle.book.specs.Calls.{requestOf, withdrawalOf, takeOf}
+use Rattle.book.specs.Calls.{requestOf, withdrawalOf, takeOf, settingOf, commonsOf}
 use Rattle.book.specs.declared.Book.{Book}
+use Rattle.book.specs.declared.Figures.{Figures}
 use Rattle.api.specs.Given.{pipeBy, liquidBy, proverBy, factorsBy, ticketBy}
-use Rattle.api.specs.Flat.{noReport, noFigures, noFill, noBase, noVolumes, noReading, nothingShown, noHandout}
+use Rattle.api.specs.Flat.{noReport, noFigures, noFill, noBase, noVolumes, noReading, nothingShown, noHandout, noCommons}
 use Rattle.api.specs.declared.books.EndakuroDone.{EndakuroDone}
 use Rattle.api.specs.declared.books.EndakuroTaken.{EndakuroTaken}
+use Rattle.api.specs.declared.books.EndakuroCommons.{EndakuroCommons}
 use Rattle.api.proofs.corrections.endakuro_cts_four.Reads as cts-four
 use Rattle.api.proofs.corrections.endakuro_cts_six.Reads as cts-six
 use Rattle.api.proofs.corrections.endakuro_cps_four.Reads as cps-four
@@ -49,10 +51,10 @@ use Rattle.api.proofs.readings.endakuro_live.Reads as live
 use Rattle.api.proofs.panel.endakuro_panel_temperature.Reads as panel-temperature
 use Rattle.api.proofs.panel.endakuro_panel_pressure.Reads as panel-pressure
 use Rattle.api.proofs.books.endakuro_empty.Reads as empty
-use Rattle.promises.specs.Numbers.{settingNumbers, liquidNumbers, jobNumbers, recordNumbers, drawNumbers, passesNumbers, fillNumbers, ticketNumbers, liveNumbers, panelNumbers, requestNumbers, withdrawalNumbers, takeNumbers, readNumbers, writeNumbers}
+use Rattle.promises.specs.Numbers.{settingNumbers, liquidNumbers, jobNumbers, recordNumbers, drawNumbers, passesNumbers, fillNumbers, ticketNumbers, liveNumbers, panelNumbers, requestNumbers, withdrawalNumbers, takeNumbers, agreementNumbers, commonsNumbers, readNumbers, writeNumbers}
 use Rattle.promises.specs.Arguments.{first, second, third, fourth, fifth, sixth}
-use Rattle.promises.specs.FlatEnding.{FlatEnds, LeavesAsFound, byKind, factorIn, reportIn, runIn, fillIn, passesIn, baseIn, volumesIn, readingIn, shownIn, changeIn, handoutIn}
-use Rattle.promises.specs.InPlaceC.{Requests, Withdraws, Takes}
+use Rattle.promises.specs.FlatEnding.{FlatEnds, LeavesAsFound, byKind, factorIn, reportIn, runIn, fillIn, passesIn, baseIn, volumesIn, readingIn, shownIn, changeIn, handoutIn, commonsIn}
+use Rattle.promises.specs.InPlaceC.{Requests, Withdraws, Takes, Sets, Shares}
 
 pub record EntriesC : Type 0 where
   pub cts-four-entry : (κ : _) (a : _) (r : _) (x : _) → cts-four.Post κ a r x → FlatEnds settingNumbers 0 0 0 (factorIn r) (ctsOf 4 (metalBy (second a) (third a)) (first a))
@@ -95,6 +97,9 @@ pub record EntriesC : Type 0 where
   pub withdraw-leaves : (shipper number : ℕ) (found left : Book) (r : EndakuroDone) → Withdraws shipper number found left r → LeavesAsFound (changeIn r) left found
   pub take-entry : (found left : Book) (r : EndakuroTaken) → Takes found left r → FlatEnds takeNumbers 0 0 noHandout (handoutIn r) (takeOf found)
   pub take-leaves : (found left : Book) (r : EndakuroTaken) → Takes found left r → LeavesAsFound (handoutIn r) left found
+  pub set-figures-entry : (figures : Figures) (found left : Book) (r : EndakuroDone) → Sets figures found left r → FlatEnds agreementNumbers 0 0 tt (changeIn r) (settingOf found figures)
+  pub set-figures-leaves : (figures : Figures) (found left : Book) (r : EndakuroDone) → Sets figures found left r → LeavesAsFound (changeIn r) left found
+  pub commons-entry : (found : Book) (r : EndakuroCommons) → Shares found r → FlatEnds commonsNumbers 0 0 noCommons (commonsIn r) (commonsOf found)
   -- These two refuse nothing: a new book; and whether a book is sound, which is a bool and leaves the book (InPlaceC.antt).
   pub empty-entry : (κ : _) (a : _) (r : _) (x : _) → empty.Post κ a r x → r ≡ emptyBook
   -- The rounded quotient is no entry of the paper's: its kind says which of three answers it is, and nothing of the table.

@@ -13,7 +13,7 @@ use Rattle.draw.specs.declared.FillFigures.{FillFigures}
 use Rattle.draw.specs.declared.BaseVolume.{BaseVolume}
 use Rattle.ticket.specs.declared.Volumes.{Volumes}
 use Rattle.live.specs.Live.{Values}
-use Rattle.book.specs.Answers.{Handed}
+use Rattle.book.specs.Answers.{Handed, Shared}
 use Rattle.api.specs.declared.corrections.EndakuroFactor.{EndakuroFactor}
 use Rattle.api.specs.declared.reports.EndakuroReport.{EndakuroReport}
 use Rattle.api.specs.declared.jobs.EndakuroRun.{EndakuroRun}
@@ -25,6 +25,7 @@ use Rattle.api.specs.declared.readings.EndakuroLive.{EndakuroLive}
 use Rattle.api.specs.declared.panel.EndakuroPanel.{EndakuroPanel}
 use Rattle.api.specs.declared.books.EndakuroDone.{EndakuroDone}
 use Rattle.api.specs.declared.books.EndakuroTaken.{EndakuroTaken}
+use Rattle.api.specs.declared.books.EndakuroCommons.{EndakuroCommons}
 use Rattle.promises.specs.Ending.{Ends}
 
 pub record Flat (A : Type 0) : Type 0 where
@@ -104,6 +105,9 @@ changeIn f = record { number = f .number; at = f .at; values = tt }
 
 abbrev pub handoutIn : EndakuroTaken → Flat Handed
 handoutIn f = record { number = f .number; at = f .at; values = record { shipper = f .shipper; number = f .request } }
+
+abbrev pub commonsIn : EndakuroCommons → Flat Shared
+commonsIn f = record { number = f .number; at = f .at; values = record { commons = f .commons; used = f .used } }
 
 -- a rounded quotient, which has a kind and no number
 abbrev pub byKind : ℕ → ℕ → Quotient

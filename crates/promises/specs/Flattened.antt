@@ -12,8 +12,8 @@ use Rattle.draw.specs.declared.Counted.{Counted}
 use Rattle.ticket.specs.Answers.{told as toldTicket}
 use Rattle.live.specs.Live.{told as toldLive}
 use Rattle.live.specs.Panel.{told as toldPanel}
-use Rattle.book.specs.Answers.{toldChange, toldTake}
-use Rattle.api.specs.Flat.{flatFactor, flatReport, flatRun, flatFill, flatPasses, flatDraw, flatVolumes, flatLive, flatPanel, flatDone, flatTaken, flatQuotient}
+use Rattle.book.specs.Answers.{toldChange, toldTake, toldCommons}
+use Rattle.api.specs.Flat.{flatFactor, flatReport, flatRun, flatFill, flatPasses, flatDraw, flatVolumes, flatLive, flatPanel, flatDone, flatTaken, flatCommons, flatQuotient}
 
 abbrev pub LosesNothing : {A F R : Type 0} → (Told A → F) → (R → Told A) → Type 0
 LosesNothing {A} {F} {R} flat told = (a b : R) → flat (told a) ≡ flat (told b) → a ≡ b
@@ -31,4 +31,5 @@ pub record Flattened : Type 0 where
   pub panel-loses-nothing : LosesNothing flatPanel toldPanel
   pub change-loses-nothing : LosesNothing flatDone toldChange
   pub take-loses-nothing : LosesNothing flatTaken toldTake
+  pub commons-lose-nothing : LosesNothing flatCommons toldCommons
   pub quotient-loses-nothing : (a b : Quotient) → flatQuotient a ≡ flatQuotient b → a ≡ b

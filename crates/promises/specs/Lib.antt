@@ -20,6 +20,7 @@ pub mod InPlace
 pub mod InPlaceC
 pub mod Sessions
 pub mod Demand3
+pub mod Agreement
 pub mod Signed
 pub mod ZeroGage
 pub mod Formulas

@@ -56,6 +56,14 @@ withdrawalNumbers = 20 ∷ 21 ∷ 22 ∷ 26 ∷ []
 abbrev pub takeNumbers : List ℕ
 takeNumbers = 20 ∷ 27 ∷ []
 
+-- 02, 'Places by agreement': '30 for setting a book that isn't empty, 31 for figures outside the rules, after 20'; the commons are told of
+-- any sound book
+abbrev pub agreementNumbers : List ℕ
+agreementNumbers = 20 ∷ 30 ∷ 31 ∷ []
+
+abbrev pub commonsNumbers : List ℕ
+commonsNumbers = 20 ∷ []
+
 -- 'A report read: 14, 15. The report writer alone, which takes number, runs, first run and five factors: 14, 22, 15.'
 abbrev pub readNumbers : List ℕ
 readNumbers = 14 ∷ 15 ∷ []

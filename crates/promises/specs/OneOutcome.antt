@@ -79,6 +79,8 @@ use Rattle.book.proofs.Outcomes.{SoundPre, SoundPost}
 use Rattle.book.proofs.request.Reads as book-request
 use Rattle.book.proofs.withdraw.Reads as book-withdraw
 use Rattle.book.proofs.take.Reads as book-take
+use Rattle.book.proofs.set_figures.Reads as book-set-figures
+use Rattle.book.proofs.tell_commons.Reads as book-tell-commons
 use Rattle.promises.specs.Arguments.{second, fifth, sixth}
 use Rattle.promises.specs.Outcome.{AnyArguments, OneAnswer, OneRead, OneLeft}
 
@@ -169,3 +171,5 @@ pub record OneOutcome : Type 0 where
   pub book-request-one : OneAnswer book-request.Pre book-request.Post
   pub book-withdraw-one : OneAnswer book-withdraw.Pre book-withdraw.Post
   pub book-take-one : OneAnswer book-take.Pre book-take.Post
+  pub book-set-figures-one : OneAnswer book-set-figures.Pre book-set-figures.Post
+  pub book-tell-commons-one : OneAnswer book-tell-commons.Pre book-tell-commons.Post
