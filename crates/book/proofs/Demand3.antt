@@ -41,9 +41,11 @@ use Rattle.book.proofs.Waiting.{Stands, times-append, times-none, times
 pub default-figures : (book : Book) → book .figures ≡ defaultFigures
     → ((shipper : ℕ) → shipper < 4 → (reserve book shipper ≡ 2) × (ceiling book shipper ≡ 8)) × (commons book ≡ 8) × (places book ≡ 16)
 unfolding places reserve ceiling commons overShippers reserveIn ceilingIn defaultFigures shippers
-default-figures book is =
-    (λ shipper known. (ap (λ (f : Figures). reserveIn f shipper) is ∙ getD-replicate 4 shipper 2 0 known, ap (λ (f : Figures). ceilingIn f shipper) is ∙ getD-replicate 4 shipper 8 0 known),
-    ap (λ (f : Figures). 16 - overShippers (reserveIn f)) is, refl)
+default-figures book is = (
+  λ shipper known. (ap (λ (f : Figures). reserveIn f shipper) is ∙ getD-replicate 4 shipper 2 0 known, ap (λ (f : Figures). ceilingIn f shipper) is ∙ getD-replicate 4 shipper 8 0 known),
+  ap (λ (f : Figures). 16 - overShippers (reserveIn f)) is,
+  refl,
+)
 
 -- as they are for as long as no figures are set
 pub figures-stay : (calls : List Call) (book : Book) → NoneSet (answersTo calls book) → afterAll calls book .figures ≡ book .figures

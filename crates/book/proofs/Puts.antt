@@ -11,7 +11,6 @@ use Rattle.octets.proofs.Laws.{zero-all}
 use Rattle.book.specs.Line.{waiting, lineOf, areProper}
 use Rattle.book.specs.Figures.{overShippers, places, reserve, ceiling, commons, lineAt, waitingOf, has, beyond, commonsUsed, put}
 use Rattle.book.specs.declared.Book.{Book}
-use Rattle.book.specs.declared.Line.{Line}
 use Rattle.book.proofs.Books.{SoundLine, SoundBook}
 
 -- the line of some numbers: what waits in it, and that it is sound

@@ -1,13 +1,13 @@
 -- Places by agreement, of the code on each of its faces: the book's laws of any sound book, and what a setting is answered.
-use mathlib.Core.Path.{_≡_, refl, sym, ap, _∙_, subst}
+use mathlib.Core.Path.{_≡_, sym, ap, _∙_}
 use mathlib.Core.Bool.{true, false, and-false}
 use Prim.Native.Nat.{ℕ}
 use native.Mathlib.Omega.{arith}
 use borrow.Author.Tests.{lt-ltb}
 use lib.Dec.{eqb}
 use lib.ListN.{length}
-use Rattle.refusals.specs.Told.{Told, done, refused}
-use Rattle.book.specs.Figures.{shippers, overShippers, places, reserve, ceiling, commons, held}
+use Rattle.refusals.specs.Told.{refused}
+use Rattle.book.specs.Figures.{shippers, overShippers, places, reserve, ceiling, commons}
 use Rattle.book.specs.Rules.{keepRules}
 use Rattle.book.specs.Sound.{isSound}
 use Rattle.book.specs.Calls.{settingFault, settingOf, agreed, afterSetting}

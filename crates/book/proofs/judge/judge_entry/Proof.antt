@@ -44,7 +44,17 @@ returns c =
     let first = second .before in
     let counted = first .before .before .before in
     let used = counted .before .before in
-    rw (c .or-else2 .ensures, inner .or-else .ensures, third .demand3 .ensures, second .demand2 .ensures, first .demand .ensures, counted .count-commons .ensures, used .count-commons-used .ensures, used .before .is-waiting .ensures, many (start counted))
+    rw (
+      c .or-else2 .ensures,
+      inner .or-else .ensures,
+      third .demand3 .ensures,
+      second .demand2 .ensures,
+      first .demand .ensures,
+      counted .count-commons .ensures,
+      used .count-commons-used .ensures,
+      used .before .is-waiting .ensures,
+      many (start counted),
+    )
 
 pub judge-entry-spec : {M : Type 1} → Rattle.book.proofs.judge.judge_entry.Statement.statement M
 judge-entry-spec =

@@ -12,7 +12,9 @@ few : (c : tie.After-reserves) (s : ℕ) → s < 4 → getD (c .before .args .fi
 unfolding reserveIn
 few c s h = let share = shares-are (c .before .args .figures) (c .before .pre) s h in let own = share .own in let narrow = share .narrow in omega arith
 
-most : (c : tie.After-reserves) → (getD (c .before .args .figures .reserves) 0 0 ≤ 16) × (getD (c .before .args .figures .reserves) 1 0 ≤ 16) × (getD (c .before .args .figures .reserves) 2 0 ≤ 16) × (getD (c .before .args .figures .reserves) 3 0 ≤ 16)
+most : (c : tie.After-reserves)
+    → (getD (c .before .args .figures .reserves) 0 0 ≤ 16) × (getD (c .before .args .figures .reserves) 1 0 ≤ 16)
+    × (getD (c .before .args .figures .reserves) 2 0 ≤ 16) × (getD (c .before .args .figures .reserves) 3 0 ≤ 16)
 most c = (few c 0 (omega arith), few c 1 (omega arith), few c 2 (omega arith), few c 3 (omega arith))
 
 returns : tie.Need-returns

@@ -1,6 +1,6 @@
 -- `book::rules::keep_rules` meets its contract: figures that a machine holds have their shape; then each shipper's two, then the sum.
 use mathlib.Core.Path.{_≡_, sym, ap, _∙_}
-use mathlib.Core.Bool.{true, false, _&&_, and-true}
+use mathlib.Core.Bool.{true, _&&_, and-true}
 use Prim.Native.Nat.{ℕ}
 use borrow.Author.Needs.{needs}
 use borrow.Author.Tests.{eq-eqb}

@@ -1,5 +1,5 @@
 -- `book::sound::is_empty` meets its contract: each count is what the shipper has waiting, and the sum is small.
-use mathlib.Core.Path.{_≡_, sym, ap}
+use mathlib.Core.Path.{_≡_, sym}
 use Prim.Native.Nat.{ℕ, _+_, _≤_, _<_}
 use native.Mathlib.Omega.{arith}
 use borrow.Author.Needs.{needs}

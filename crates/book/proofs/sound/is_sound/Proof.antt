@@ -1,13 +1,14 @@
 -- `book::sound::is_sound` meets its contract: a book that a machine holds has its four lines; then the figures, each line, the commons, the
 -- last served.
 use mathlib.Core.Path.{_≡_, sym, _∙_}
-use mathlib.Core.Bool.{true, false}
+use mathlib.Core.Bool.{true}
 use borrow.Author.Tests.{le-leb, lt-leb, eq-eqb, not-true, not-false}
 use lib.Dec.{leb, eqb}
 use lib.ListN.{length, length-map}
 use Rattle.book.specs.Figures.{shippers, overShippers, places, reserve, commons, commonsUsed}
 use Rattle.book.specs.Rules.{keepRules}
 use Rattle.book.specs.Sound.{areLinesSound, isSound}
+use Rattle.book.specs.declared.Book.{Book}
 use Rattle.book.proofs.sound.is_sound.Tie as tie
 
 four : (c : tie.Start) → eqb (length (c .args .book .lines)) 4 ≡ true
@@ -20,7 +21,10 @@ lined : (c : tie.Then2) → areLinesSound (c .before .before .before .before .ar
 lined c = sym (c .before .are-lines-sound .ensures) ∙ c .if2 .taken
 
 -- the commons used beside the commons, as they were counted
-shared : (c : tie.After-count-commons) → leb (c .before .count-commons-used .result) (c .count-commons .result) ≡ leb (commonsUsed (c .before .before .before .before .before .before .args .book)) (commons (c .before .before .before .before .before .before .args .book))
+abbrev book-of : tie.After-count-commons → Book
+book-of c = let then = c .before .before in then .before .before .before .before .args .book
+
+shared : (c : tie.After-count-commons) → leb (c .before .count-commons-used .result) (c .count-commons .result) ≡ leb (commonsUsed (book-of c)) (commons (book-of c))
 unfolding commons places overShippers reserve
 shared c = λ i. leb (c .before .count-commons-used .ensures i) (c .count-commons .ensures i)
 
