@@ -28,3 +28,4 @@ pub mod EntriesC
 pub mod Sessions
 pub mod Demand3
 pub mod Agreement
+pub mod TwoAndEight
