@@ -11,13 +11,12 @@ use lib.ListN.{length}
 use Rattle.refusals.specs.Told.{Told, Fault, demand, orElse, unless, judged, leftBy}
 use Rattle.octets.specs.FirstToLast.{firstToLast, holdsAll}
 use Rattle.octets.specs.Lists.{isOneOf}
-use Rattle.book.specs.Figures.{shippers, overShippers, reserve, ceiling, commons, lineAt, waitingOf, has, beyond, commonsUsed, defaultFigures}
+use Rattle.book.specs.Figures.{shippers, overShippers, reserve, ceiling, lineAt, waitingOf, has, beyond, commonsUsed, defaultFigures}
 use Rattle.book.specs.Rules.{keepRules}
 use Rattle.book.specs.Sound.{isLineSound, isSoundAt, areLinesSound, isSound}
 use Rattle.book.specs.Answers.{Handed}
 use Rattle.book.specs.Calls.{callFault, hasRoom, entryFault, requestFault, requestOf, entered, afterRequest, withdrawalFault, withdrawalOf, removed, afterWithdrawal, nextTurn, handedOut, takeOf, afterTake}
 use Rattle.book.specs.declared.Book.{Book}
-use Rattle.book.specs.declared.Figures.{Figures}
 use Rattle.book.proofs.Demand3.{default-figures}
 use Rattle.book.proofs.Empty.{default-keep-rules}
 use Rattle.book.proofs.Kept.{request-did, withdrawal-did, take-did, in-figures, out-figures}
