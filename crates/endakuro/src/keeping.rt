@@ -61,11 +61,11 @@ fn answer_take(kept: Book, out: &mut [u8]) -> Answered {
     }
 }
 
-fn wide(n: u32) -> u64 {
+fn widen(n: u32) -> u64 {
     n as u64
 }
 
-fn widen(n: u8) -> u64 {
+fn widen_byte(n: u8) -> u64 {
     n as u64
 }
 
@@ -76,7 +76,7 @@ fn add_waiting(line: Line, out: &mut [u8], from: usize) -> usize {
     let mut at = add_numbers(&[count as u64], out, from);
     let mut i = 0;
     while i < 16 {
-        at = answers::add_wanted(i < count, wide(numbers[i]), out, at);
+        at = answers::add_wanted(i < count, widen(numbers[i]), out, at);
         i += 1;
     }
     at
@@ -101,14 +101,14 @@ fn add_figures(figures: Figures, commons: u64, used: u64, out: &mut [u8]) -> usi
     let ceilings = figures.ceilings;
     say_ok(
         &[
-            widen(reserves[0]),
-            widen(reserves[1]),
-            widen(reserves[2]),
-            widen(reserves[3]),
-            widen(ceilings[0]),
-            widen(ceilings[1]),
-            widen(ceilings[2]),
-            widen(ceilings[3]),
+            widen_byte(reserves[0]),
+            widen_byte(reserves[1]),
+            widen_byte(reserves[2]),
+            widen_byte(reserves[3]),
+            widen_byte(ceilings[0]),
+            widen_byte(ceilings[1]),
+            widen_byte(ceilings[2]),
+            widen_byte(ceilings[3]),
             commons,
             used,
         ],
