@@ -1,23 +1,24 @@
 -- Places by agreement, of the code on each of its faces: the book's laws of any sound book, and what a setting is answered.
 use mathlib.Core.Path.{_≡_, sym, ap, _∙_}
 use mathlib.Core.Bool.{true, false, and-false}
-use Prim.Native.Nat.{ℕ}
+use Prim.Native.Nat.{ℕ, _<_}
 use native.Mathlib.Omega.{arith}
 use borrow.Author.Tests.{lt-ltb}
 use lib.Dec.{eqb}
 use lib.ListN.{length}
 use Rattle.refusals.specs.Told.{refused}
-use Rattle.book.specs.Figures.{shippers, overShippers, places, reserve, ceiling, commons}
+use Rattle.book.specs.Figures.{shippers, overShippers, places, reserve, ceiling, commons, has}
 use Rattle.book.specs.Rules.{keepRules}
 use Rattle.book.specs.Sound.{isSound}
 use Rattle.book.specs.Calls.{settingFault, settingOf, agreed, afterSetting}
-use Rattle.book.specs.Demand3.{setting, Answer, answerTo, after}
+use Rattle.book.specs.Demand3.{request, setting, Answer, answerTo, after}
 use Rattle.book.specs.declared.Book.{Book}
 use Rattle.book.specs.declared.Figures.{Figures}
 use Rattle.book.proofs.Agreed.{agreed-is}
 use Rattle.book.proofs.Books.{sound-is}
 use Rattle.book.proofs.Demand3 as book
 use Rattle.promises.specs.Sessions.{Contracts, about, aboutNone, AsMeant}
+use Rattle.promises.specs.Demand3.{ValidNew, wentIn}
 use Rattle.promises.specs.Agreement.{Places, Agreement, AgreementOnEachFace}
 use Rattle.promises.proofs.Demand1.{setting-leaves-book}
 use Rattle.promises.proofs.Demand3.{answered, whether-is, sound-reached}
@@ -54,14 +55,19 @@ module _ (does : Contracts) (meant : AsMeant does) where
     set-refused : {n at : ℕ} → settingOf found figures ≡ refused n at → (answer ≡ refused n at) × (left ≡ found)
     set-refused is = (set-answered ∙ ap aboutNone is, left-is ∙ setting-leaves-book found figures is)
 
+  goes-in : (found left : Book) (shipper number : ℕ) (answer : Answer) → isSound found ≡ true → shipper < 4 → has found shipper < reserve found shipper → ValidNew found shipper number
+      → does (request shipper number) found answer left → answer ≡ wentIn shipper number
+  goes-in found left shipper number answer sound known few new did =
+      answered does meant did ∙ ap (about shipper number) (book.below-the-reserve-goes-in found sound shipper known number (new .valid) (new .new) few)
+
   agreement : Agreement does
   unfolding shippers agreed
   agreement =
       record {
         figures-keep-the-rules = places-of;
         outside-is-not-sound = not-sound;
-        below-its-reserve-goes-in = λ found left shipper number answer reached known few new did.
-            answered does meant did ∙ ap (about shipper number) (book.below-the-reserve-goes-in found (sound-reached does meant found reached) shipper known number (new .valid) (new .new) few);
+        below-its-reserve-goes-in = λ found left shipper number answer reached. goes-in found left shipper number answer (sound-reached does meant found reached);
+        reserves-are-never-eaten = goes-in;
         refused-only-when-commons-used = λ found left shipper number n at reached known many below new did.
             let sound = sound-reached does meant found reached in
             let refusal = sym (whether-is does meant did) in (

@@ -28,4 +28,5 @@ pub mod EntriesC
 pub mod Sessions
 pub mod Demand3
 pub mod Agreement
+pub mod OwnFigures
 pub mod TwoAndEight

@@ -25,8 +25,11 @@ pub record Agreement (does : Contracts) : Type 0 where
   -- 'A book with figures outside these rules isn't sound.' Every book that is reached is sound (Demand3).
   pub figures-keep-the-rules : (book : Book) → isSound book ≡ true → Places book
   pub outside-is-not-sound : (book : Book) → keepRules (book .figures) ≡ false → isSound book ≡ false
-  -- 'A shipper with fewer than' its reserve 'waiting always gets a valid new one in', whatever the others hold
+  -- 'A shipper with fewer than' its reserve 'waiting always gets a valid new one in'
   pub below-its-reserve-goes-in : (book left : Book) (shipper number : ℕ) (answer : Answer) → Reached does book → shipper < 4 → has book shipper < reserve book shipper → ValidNew book shipper number
+      → does (request shipper number) book answer left → answer ≡ wentIn shipper number
+  -- .. whatever the others hold, in any sound book, wherever it came from: no reserve is eaten by the commons
+  pub reserves-are-never-eaten : (book left : Book) (shipper number : ℕ) (answer : Answer) → isSound book ≡ true → shipper < 4 → has book shipper < reserve book shipper → ValidNew book shipper number
       → does (request shipper number) book answer left → answer ≡ wentIn shipper number
   -- one from its reserve on, below its ceiling, 'is refused it only when the' book's commons 'are used up'
   pub refused-only-when-commons-used : (book left : Book) (shipper number n at : ℕ) → Reached does book → shipper < 4 → reserve book shipper ≤ has book shipper → has book shipper < ceiling book shipper
@@ -40,8 +43,8 @@ pub record Agreement (does : Contracts) : Type 0 where
       → waitingOf book shipper ≡ waitingOf other shipper′ → reserve book shipper ≡ reserve other shipper′ → ceiling book shipper ≡ ceiling other shipper′
       → (reserve book shipper ≤ has book shipper → (commonsUsed book ≡ commonsUsed other) × (commons book ≡ commons other))
       → does (request shipper number) book answer left → does (request shipper′ number) other answer′ left′ → whether answer ≡ whether answer′
-  -- 'Figures are set on an empty book only, and the turn order is kept.' A setting that is made: it was a sound, empty book and figures that
-  -- keep the rules, and all that has changed are the figures.
+  -- 'Figures are set on an empty book only, and the turn order is kept.' In a sound, empty book figures that keep the rules are set, and nothing
+  -- else has changed; whatever else is asked is refused by the next three.
   pub set-on-an-empty-book : (book left : Book) (figures : Figures) (answer : Answer) → isSound book ≡ true → held book ≡ 0 → keepRules figures ≡ true
       → does (setting figures) book answer left → (answer ≡ done noRequest) × (left .figures ≡ figures) × (left .last ≡ book .last) × (left .lines ≡ book .lines)
   -- '30 for setting a book that isn't empty, 31 for figures outside the rules, after 20': and nothing has changed

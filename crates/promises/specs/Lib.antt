@@ -21,6 +21,7 @@ pub mod InPlaceC
 pub mod Sessions
 pub mod Demand3
 pub mod Agreement
+pub mod OwnFigures
 pub mod TwoAndEight
 pub mod Signed
 pub mod ZeroGage
