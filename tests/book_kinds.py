@@ -8,12 +8,15 @@ from book_faults import faults_of_figures, kinds_of_figures
 from cases.book_shapes import PLACES, RESERVES, SHIPPERS, Figures
 from kept_book import CALLS, ENTRIES, Kept
 from outcomes import BAD, OK
+from request_kinds import CEILING, FULL, WAITING, ZERO
 
-UNSOUND, NOT_EMPTY, OUTSIDE = 20, 30, 31
-JUDGED = (OK, request_kinds.WAITING, request_kinds.CEILING, request_kinds.FULL)
+UNSOUND, UNKNOWN, NOT_EMPTY, OUTSIDE = 20, 21, 30, 31
+# what a request of a shipper that there is can be answered by a sound book
+JUDGED = (OK, ZERO, WAITING, CEILING, FULL)
 SHORT_OF_FIGURES = 69  # operands of a `load` without its eight figures
 MISCOUNTED = {"set": (7, 9), "figures": (1,), "load": (SHORT_OF_FIGURES, 76, 78)}
 LEAVING = ("empty", "load", "set", "take", "withdraw")
+ZERO_TOO = "a number of zero too"
 
 
 def values_of(figures):
@@ -63,6 +66,8 @@ def reached(kept, entry, operands, what, values):
             yield from before_others(kept, entry, operands)
     elif entry == "request" and what in JUDGED:
         yield from request_kinds.reached(kept, operands[0], what)
+    elif what == UNKNOWN and operands[1] == 0:
+        yield ZERO_TOO
     elif entry == "set":
         yield from setting(kept, Figures.read(operands))
     elif entry in ("figures", "book"):
@@ -112,6 +117,7 @@ def wanted():
     for entry in ("request", "withdraw"):
         for fault in ("an unknown shipper", "a number of zero"):
             yield entry, UNSOUND, f"before {fault}"
+        yield entry, UNKNOWN, ZERO_TOO
     for fault in ("a number that waits already", "its ceiling", "commons used up"):
         yield "request", UNSOUND, f"before {fault}"
     yield "withdraw", UNSOUND, "before a number that is not waiting"

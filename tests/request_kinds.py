@@ -4,7 +4,7 @@ with the commons used up or one of them left, and where other figures would answ
 from cases.book_shapes import NEW, PLACES, RESERVES, SHIPPERS, others_than
 from outcomes import OK
 
-WAITING, CEILING, FULL = 23, 24, 25
+ZERO, WAITING, CEILING, FULL = 22, 23, 24, 25
 MOST_COMMONS = PLACES - SHIPPERS
 # the others have at least one place each
 MOST_OF_ONE = 13
@@ -48,7 +48,7 @@ def reached(kept, shipper, what):
         yield AT_CEILING
     if count == reserve and not left:
         yield AT_RESERVE
-    if what == WAITING:
+    if what in (ZERO, WAITING):
         return
     who = f"shipper {shipper}"
     if count in (ceiling, ceiling - 1):
@@ -68,7 +68,8 @@ def reached(kept, shipper, what):
 
 def wanted():
     """What is answered, and to which kind of request."""
-    yield from ((WAITING, kind) for kind in (AT_CEILING, AT_RESERVE))
+    for what in (ZERO, WAITING):
+        yield from ((what, kind) for kind in (AT_CEILING, AT_RESERVE))
     for shipper in range(SHIPPERS):
         yield from of_one(shipper)
     for commons in range(MOST_COMMONS + 1):

@@ -39,7 +39,7 @@ pub record OwnFigures : Type 0 where
   pub at-its-reserve : thirdOf1 (6 ∷ 2 ∷ 6 ∷ 2 ∷ []) wide ≡ refused 25 0
   -- by the book's commons
   pub one-shared : thirdOf1 (6 ∷ 2 ∷ 5 ∷ 2 ∷ []) wide ≡ done tt
-  -- a ceiling of 16: shipper 0 takes all twelve shared places, and has 13; another's own place is kept for it, and its second is not shared any more
+  -- a ceiling of 16: shipper 0 takes all twelve shared places, and has 13; its neighbour's own place is kept for it, and beyond that nothing is left
   pub thirteen : commonsOf (sent 0 13 (newWith (1 ∷ 1 ∷ 1 ∷ 1 ∷ []) wide)) ≡ done (record { commons = 12; used = 12 })
   pub fourteenth : requestOf (sent 0 13 (newWith (1 ∷ 1 ∷ 1 ∷ 1 ∷ []) wide)) 0 14 ≡ refused 25 0
   pub own-place-kept : requestOf (sent 0 13 (newWith (1 ∷ 1 ∷ 1 ∷ 1 ∷ []) wide)) 3 1 ≡ done tt
