@@ -7,8 +7,8 @@
 #include <stdlib.h>
 #include <time.h>
 
-static const Kind *const kinds[] = {&jobs,  &draws, &round_trips, &tickets,       &readings,
-                                    &panel, &calls, &quotients,   &long_quotients};
+static const Kind *const kinds[] = {&jobs,  &draws,    &round_trips, &tickets,   &readings,
+                                    &panel, &look_ups, &calls,       &quotients, &long_quotients};
 
 #define KINDS (sizeof kinds / sizeof *kinds)
 

@@ -23,6 +23,7 @@ KINDS = (
     "tickets",
     "live readings",
     "panel numbers",
+    "look-ups in 4,096",
     "book calls",
     "rounded quotients",
     "those of two words",

@@ -15,6 +15,7 @@
     EndakuroLive side##_live(float temperature, float pressure);                                                       \
     EndakuroPanel side##_panel_temperature(int16_t tenths);                                                            \
     EndakuroPanel side##_panel_pressure(uint16_t psi);                                                                 \
+    EndakuroEntry side##_look_up(int16_t temperature, uint16_t gravity, const uint8_t *table, size_t length);          \
     EndakuroDone side##_request(EndakuroBook *book, uint8_t shipper, uint32_t number);                                 \
     EndakuroDone side##_withdraw(EndakuroBook *book, uint8_t shipper, uint32_t number);                                \
     EndakuroTaken side##_take(EndakuroBook *book);                                                                     \
@@ -26,7 +27,9 @@ DECLARE(plain);
 DECLARE(bare);
 DECLARE(previous);
 
-// An archive of before bidirectional provers has none, and one of before agreements knows 2 and 8 alone.
+// An archive of before bidirectional provers has none, one of before agreements knows 2 and 8 alone, and one of before
+// look-ups has no look-up.
 #pragma weak previous_bidirectional
 #pragma weak previous_set_figures
 #pragma weak previous_commons
+#pragma weak previous_look_up

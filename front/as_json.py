@@ -3,8 +3,8 @@
 import json
 
 from . import version
-from .fields import FACTOR
-from .json_bodies import BODIES, figure
+from .fields import ASKED, FACTOR
+from .json_bodies import BODIES, entry, figure, read_figures, table
 from .refusals import WORDS, Detail
 
 ACCEPTED, REFUSED, BAD = "accepted", "refused", "bad file"
@@ -47,7 +47,7 @@ def detail(told):
         made["value"] = figure(told.value, told.unit)
     if told.low is not None:
         made["range"] = {"low": told.low, "high": told.high, "unit": told.unit.name, "decimals": told.unit.places}
-    return made
+    return made | {key: place for key, place in (("line", told.line), ("run", told.run)) if place}
 
 
 def record(name, octets, told=None, explained=None):
@@ -58,6 +58,13 @@ def record(name, octets, told=None, explained=None):
     five = [figure(each, FACTOR) for each in told["five"]]
     factor = figure(told["factor"], FACTOR)
     return made | {"result": {**told, "factor": factor, "five": five}}
+
+
+def look_up(own, asked, found=None, explained=None):
+    """An entry of a table, or a look-up that is refused."""
+    made = head("look-up", REFUSED if explained else ACCEPTED) | {"table": table(own)}
+    made["asked"] = read_figures(asked, ASKED)
+    return made | ({"refusal": refusal(explained)} if explained else {"result": entry(found)})
 
 
 def bad(command, fault):

@@ -4,7 +4,7 @@ import argparse
 import contextlib
 import sys
 
-from . import as_json, build, commands, helps, outputs, suffixes, templates, version
+from . import as_json, build, commands, fields, helps, outputs, suffixes, templates, version
 from .badfile import BadFile
 from .hints import echo, plain
 from .outputs import NotWritten
@@ -74,6 +74,12 @@ def parser():
     source.add_argument("--hex", metavar="BYTES", help="the record's bytes in hex instead")
     writes(read, "--html", "OUT.html", "write what it says for print, one sheet of Letter or A4")
 
+    look_up = command("look-up", commands.look_up, "a compressibility F in a table: its entry", helps.LOOK_UP)
+    look_up.add_argument("table", metavar="TABLE.csv", help="the table's file; - is standard input")
+    look_up.add_argument("temperature", metavar="TEMPERATURE", help=fields.TEMPERATURE.range)
+    look_up.add_argument("gravity", metavar="GRAVITY", help=f"{fields.GRAVITY.range}, at 60 °F")
+    writes(look_up, "--html", "OUT.html", "write what is found for print, one sheet of Letter or A4")
+
     book = command("book", commands.book, "a session with the book of waiting requests", helps.BOOK)
     book.add_argument("session", nargs="?", metavar="SESSION.txt", help="the steps, a line each; else the keyboard")
     book.add_argument("--keep", metavar="FILE", help="go on from the book of FILE, and keep it there")
@@ -93,7 +99,8 @@ def parser():
 
     new = command("new", commands.new, "a job file to begin with, that runs as it is", helps.NEW)
     new.add_argument("kind", choices=templates.TEXTS, metavar="KIND", help=", ".join(templates.TEXTS))
-    new.add_argument("out", nargs="?", metavar="OUT.toml", default=outputs.STANDARD, help="where it goes, if not shown")
+    about = "where it goes, if not shown; OUT.csv of a table"
+    new.add_argument("out", nargs="?", metavar="OUT.toml", default=outputs.STANDARD, help=about)
     new.add_argument("--force", action="store_true", help="write over a file that is there already")
 
     command("lines", commands.lines, "the line program itself: a line in, a line out", helps.LINES)

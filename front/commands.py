@@ -4,8 +4,8 @@ import os
 import sys
 
 from . import book as books
-from . import as_json, figures, html_page, jobs, outputs, page, pages, plot, report_record, rework, short_pages, steps
-from . import suffixes, templates
+from . import as_json, asked_numbers, figures, html_page, jobs, look_up_faults, look_up_pages, look_ups, outputs, page
+from . import pages, plot, report_record, rework, short_pages, steps, suffixes, templates
 from . import verify as verifying
 from . import workbook, worksheets
 from . import worked as works
@@ -87,14 +87,31 @@ def read(options, program):
         told = figures.read(record, program)
     except Refused as refused:
         explained = report_record.explain(record, refused.refusal)
-    shown = short_pages.read(name, record, told, explained)
+    answer = short_pages.read(name, record, told, explained), as_json.record(name, record, told, explained)
+    return give(options, name, *answer, explained)
+
+
+def give(options, name, shown, for_machines, refusal):
+    """The answer of a command that has no job file: its page, for print too, or its JSON; a refusal in words."""
     if options.html:
         outputs.write(options.html, html_page.render(shown))
     if options.json:
-        tell(as_json.record(name, record, told, explained))
-    elif told:
+        tell(for_machines)
+    elif not refusal:
         show(options, shown)
-    return refuse(name, explained) if explained else DONE
+    return refuse(name, refusal) if refusal else DONE
+
+
+def look_up(options, program):
+    outputs.check([options.table], options.places, options.force)
+    table, asked = asked_numbers.read(options.table, options.temperature, options.gravity)
+    found = explained = None
+    try:
+        found = look_ups.find(table, *asked.values(), program)
+    except Refused as refused:
+        explained = look_up_faults.explain(table, asked, refused.refusal)
+    shown = look_up_pages.build(table, asked, found, explained)
+    return give(options, table.name, shown, as_json.look_up(table, asked, found, explained), explained)
 
 
 def book(options, program):
@@ -116,7 +133,7 @@ def lines(options, program):
 
 
 def new(options, program):
-    outputs.check([], {"OUT.toml": options.out}, options.force)
+    outputs.check([], {"OUT.csv" if options.kind == templates.TABLE else "OUT.toml": options.out}, options.force)
     if not options.json or options.out != outputs.STANDARD:
         outputs.write(options.out, templates.TEXTS[options.kind])
     if options.json:

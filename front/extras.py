@@ -6,7 +6,7 @@ from dataclasses import dataclass
 from . import as_json, outputs, pages, plot
 from . import worked as works
 from .badfile import BadFile
-from .outputs import STANDARD
+from .outputs import STANDARD, NotWritten
 
 # What the page of a job from standard input is called.
 UNNAMED = "standard-input"
@@ -36,10 +36,17 @@ class Extras:
         worked = works.work(job, program)
         if self.reports:
             os.makedirs(os.path.dirname(self.place(path, "")), exist_ok=True)
-            outputs.write(self.place(path, ".html"), pages.printed(worked))
+            write(self.place(path, ".html"), pages.printed(worked), job)
             if worked.runs:
-                outputs.write(self.place(path, ".svg"), plot.draw(worked))
+                write(self.place(path, ".svg"), plot.draw(worked), job)
         return {"json": as_json.job(worked)} if self.json else {}
+
+
+def write(place, content, job):
+    """A page or a plot; only now is it known which other files the job reads."""
+    if outputs.identity(place) in map(outputs.identity, job.files):
+        raise NotWritten(place, "it is read by that job")
+    outputs.write(place, content)
 
 
 def of(options, paths):

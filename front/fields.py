@@ -10,6 +10,12 @@ PSI = Unit("psi", 0, ("psi", "psig", "psigage", "psigauge"))
 PER_DEGREE = Unit("per °F", 7, ("perf", "/f", "1/f"))
 INCH = Unit("in", 3, ("in", "inch", "inches", '"', "\u2032\u2032"), in_words="inches")
 PER_PSI = Unit("per psi", 8, ("perpsi", "/psi", "1/psi"))
+# F as the table of API MPMS 11.2.1 prints it: 0.448 stands for 0.00000448 per psi, so that both count the same.
+PRINTED = Unit(
+    "/ 100,000 per psi", 3, ("/100,000", "/100000", "/100,000perpsi", "/100000perpsi"),
+    in_words="1 / 100,000 per psi", alone=False,
+)  # fmt: skip
+API = Unit("°API", 1, ("api",), alone=False)
 FACTOR = Unit("", 4)
 FINE_FACTOR = Unit("", 6)
 BARRELS = ("bbl", "bbls", "barrel", "barrels")
@@ -93,6 +99,8 @@ WATER = 320
 # The equilibrium pressure of a liquid that does not boil at line conditions, water among them.
 DOES_NOT_BOIL = 0
 
+# What a run is read at.
+SIDES = ("prover", "meter")
 RUN = named(
     Field("pulses", "pulses", PULSE, 1, 100_000_000, "I"),
     Field("prover_temperature", "prover temperature", DEGREE, -200, 2000, "h"),
@@ -133,16 +141,19 @@ TICKET = named(
 )
 
 # The pressure that an equilibrium pressure may not lie above, in a run and on a ticket.
-AT_MOST = {f"{side}equilibrium_pressure": f"{side}pressure" for side in ("prover_", "meter_", "")}
+AT_MOST = {f"{at}equilibrium_pressure": f"{at}pressure" for at in (*(f"{side}_" for side in SIDES), "")}
 # How pages and worksheets write the CPL of a liquid that has one.
 CPL_FROM_PE = "1 / (1 - F x (P - Pe))"
 
-LIVE = named(
-    Field("temperature", "temperature", DEGREE, -200, 2000, "h"),
-    Field("pressure", "pressure", PSI, 0, 1500, "H"),
-)
+TEMPERATURE = Field("temperature", "temperature", DEGREE, -200, 2000, "h")
+LIVE = named(TEMPERATURE, Field("pressure", "pressure", PSI, 0, 1500, "H"))
 # The panel takes what a live reading comes to.
 PANEL = LIVE
+
+# What is asked of a table of compressibilities, and what an entry of it has.
+GRAVITY = Field("gravity", "API gravity", API, 0, 900, "H")
+ASKED = named(TEMPERATURE, GRAVITY)
+ENTRY = ASKED | named(Field("F", "compressibility F", PRINTED, 0, 10000, "H"))
 
 # How the page names what a job file often says in its [heading]; any other key is named by itself.
 HEADING = {
@@ -158,6 +169,8 @@ def heading_label(key):
 
 
 RUNS, FILLS, PASSES = (5, 20), (3, 60), (3, 20)
+# 02: 'One to 4,096 records are lent at a time'.
+ENTRIES = (1, 4096)
 # 02, of a bidirectional draw: 'an odd count of passes, or a count outside 6 to 20, is 1'.
 PAIRED_PASSES = (6, 20)
 # A group of a draw is of passes or of round trips.

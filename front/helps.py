@@ -63,6 +63,15 @@ def of_draw():
     ]
 
 
+def compressibility(*known):
+    """The table of a job that looks F up."""
+    return [
+        "[compressibility] in place of F: each F that is left out is looked up in a table of API MPMS 11.2.1",
+        *keys(fields.named(*known)),
+        row("table", "its name, beside the job file: a CSV, see ./endakuro look-up --help"),
+    ]
+
+
 def entries(name, known):
     return [
         f"[[{name}]], one for each; [every_{name}] holds what all share, and a {name}'s own key wins",
@@ -89,6 +98,8 @@ PROVE = described(
     prover(True),
     ["[meter]", *keys(fields.named(fields.K_FACTOR))],
     entries("run", fields.RUN),
+    compressibility(fields.GRAVITY),
+    [row("", "each F by its own side's temperature; one that is typed is used as typed")],
 )
 DRAW = described(
     "Prints the report of a water draw: a row a fill, the passes, a bidirectional prover's round trips, the\n"
@@ -99,6 +110,8 @@ DRAW = described(
 TICKET = described(
     "Prints a measurement ticket: its factor, gross standard and net standard volume.",
     ["[ticket]", *keys(fields.TICKET)],
+    compressibility(fields.TEMPERATURE, fields.GRAVITY),
+    [row("", "the temperature is the liquid's, since a ticket has no other")],
 )
 LIVE = described(
     "Prints a transmitter's temperature and pressure as the skid takes them, and the singles by which the\n"
@@ -113,6 +126,22 @@ PANEL = described(
     ["[panel]", *keys(fields.PANEL)],
 )
 READ = "Prints what a 32-byte report record says: request, meter factor, the accepted runs and their factors."
+LOOK_UP = "\n".join(
+    [
+        "Prints the entry of a table of compressibilities F for a temperature and a gravity, each taken to the",
+        "nearest half degree first, as API MPMS 11.2.1 says; nothing is interpolated. A number may have its unit",
+        "behind it, in quotes; one below zero stands as it is, -5.0.",
+        "",
+        "A table is a CSV that a person types from the printed pages: a line of headings, then a line an entry,",
+        "rising by gravity and then by temperature, no pair twice, {} to {:,} entries. What is".format(*fields.ENTRIES),
+        "more goes into another file. Temperatures and gravities lie on half degrees. Lines that begin with # are",
+        "remarks; one at the top is shown on every page. All faults of a table are told at once, each with its",
+        "line. ./endakuro new table prints one to begin with.",
+        "",
+        *keys(fields.ENTRY),
+        row("", "as it is printed: 0.448 stands for 0.00000448 per psi"),
+    ]
+)
 BOOK = "\n".join(
     [
         "Works through a session and shows the book after each step: each shipper's reserve, ceiling and waiting",
@@ -128,7 +157,8 @@ BOOK = "\n".join(
 )
 NEW = """\
 Prints a job file of a kind, every key with what it is and its range. It runs as it is; put your own
-figures in place of its own."""
+figures in place of its own. table is a table of compressibilities, for look-up and for jobs that look F up,
+with the one entry that the text of API MPMS 11.2.1 prints."""
 LINES = """\
 Runs the line program on standard input and output, once it is built: docs/LINES.md has its lines. Every
 figure that the other commands show is an answer of it."""

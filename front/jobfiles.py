@@ -39,7 +39,8 @@ class File:
     """A file that is read, and what was found wrong in it and in the files that it names."""
 
     def __init__(self, path, octets, expected="a TOML job file"):
-        self.path, self.faults, self.misplaced = plain(str(NAMES.get(path, path))), [], set()
+        self.path, self.octets = plain(str(NAMES.get(path, path))), octets
+        self.faults, self.misplaced = [], set()
         # The bytes of the files that this one names, and where those are looked for.
         self.named, self.folder = {}, Path(path).parent if path not in NAMES else Path()
         try:

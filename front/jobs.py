@@ -3,7 +3,7 @@
 from dataclasses import replace
 from hashlib import sha256
 
-from . import entry_files, fields
+from . import entry_files, fields, look_up_jobs
 from .badfile import BadFile
 from .hints import echo, near, offer
 from .jobfiles import File, octets_of
@@ -30,6 +30,7 @@ HOMES_OF_PROVING = {
     "k_factor": "in [meter]",
     # A proving takes the base volume as it is given, of either profile.
     "profile": "in [prover] of a water draw",
+    **look_up_jobs.HOMES,
 }
 HOMES_OF_DRAW = {
     **dict.fromkeys(PROVER_OF_DRAW, "in [prover]"),
@@ -69,7 +70,7 @@ def profile_of(top, table, heading):
     return PROFILES.get(name, UNIDIRECTIONAL)
 
 
-def entries_of(top, key, known, layout, homes):
+def entries_of(top, key, known, layout, homes, looked_up=frozenset()):
     """The runs or fills; [every_run] holds what each has unless it says otherwise itself."""
     shared = top.table(f"every_{key}", needed=False)
     shared.only(known, homes)
@@ -80,6 +81,7 @@ def entries_of(top, key, known, layout, homes):
         return []
     for table in listed:
         table.slipped |= shared.slipped
+        table.looked_up = looked_up
     return [entry_of(table, common, known, layout, homes) for table in listed]
 
 
@@ -112,19 +114,20 @@ def heading_of(top, of_top=()):
 
 
 def proving_of(top):
-    tables = ["heading", "prover", "meter", "every_run", "run", "runs"]
+    tables = ["heading", "prover", "meter", "every_run", "run", "runs", *look_up_jobs.tables(top)]
     top.only([*OF_PROVING, *tables], HOMES_OF_PROVING)
     meter = top.table("meter")
     meter.only(["k_factor"], HOMES_OF_PROVING)
-    return Proving(
+    proving = Proving(
         top.file.path,
         heading_of(top, OF_PROVING),
         top.count(fields.REQUEST),
         prover_of(top.table("prover"), PROVER, True, HOMES_OF_PROVING),
         meter.count(fields.K_FACTOR),
         top.count(fields.LIMIT, fields.HOUSE_LIMIT),
-        entries_of(top, "run", fields.RUN, RUN_LAYOUT, HOMES_OF_PROVING),
+        entries_of(top, "run", fields.RUN, RUN_LAYOUT, HOMES_OF_PROVING, look_up_jobs.keys(top, "run")),
     )
+    return replace(proving, look_up=look_up_jobs.of_runs(top, proving.runs))
 
 
 def draw_of(top):
@@ -136,17 +139,19 @@ def draw_of(top):
     return Draw(top.file.path, heading, prover, fills, profile_of(top, table, heading))
 
 
-def sole_table(top, key, known):
-    """The table of a job that has no other but its heading."""
-    top.only(["heading", key], dict.fromkeys(known, f"in [{key}]"))
+def sole_table(top, key, known, others=()):
+    """The table of a job that has no other but its heading and perhaps some others."""
+    top.only(["heading", key, *others], dict.fromkeys(known, f"in [{key}]"))
     table = top.table(key)
     table.only(known)
     return table
 
 
 def ticket_of(top):
-    table = sole_table(top, "ticket", fields.TICKET)
-    return Ticket(top.file.path, heading_of(top), {key: table.count(each) for key, each in fields.TICKET.items()})
+    table = sole_table(top, "ticket", fields.TICKET, look_up_jobs.tables(top))
+    table.looked_up = look_up_jobs.keys(top, "ticket")
+    counts = {key: table.count(each) for key, each in fields.TICKET.items()}
+    return Ticket(top.file.path, heading_of(top), counts, look_up_jobs.of_ticket(top, counts))
 
 
 def live_of(top):

@@ -20,7 +20,10 @@ def figure(count, unit):
 
 
 def read_figures(counts, known):
-    return {key: figure(counts[key], field.unit) for key, field in known.items()}
+    """Figures by their keys; null for an F that was not found."""
+    return {
+        key: figure(counts[key], field.unit) if counts[key] is not None else None for key, field in known.items()
+    }
 
 
 def told_figures(counts, units):
@@ -45,6 +48,25 @@ def group(own, unit, accepted):
     }
 
 
+def table(own):
+    """A table of compressibilities."""
+    return {"file": own.name, "sha256": own.digest, "remark": own.remark, "entries": len(own.entries)}
+
+
+def entry(own):
+    told = read_figures({"temperature": own.temperature, "gravity": own.gravity}, fields.ASKED)
+    return told | {"compressibility": figure(own.compressibility, fields.PER_PSI), "line": own.line}
+
+
+def looked_up(own):
+    """What a job looks up; nothing where it looks nothing up."""
+    if own is None:
+        return {}
+    found = [{"asked": figure(asked, fields.DEGREE), **entry(each)} for asked, each in sorted(own.found.items())]
+    told = {"table": table(own.table), "gravity": figure(own.gravity, fields.API), "found": found}
+    return {"look_up": told | {"sought": [{"run": each.run, "field": each.key} for each in own.sought]}}
+
+
 def proving(worked):
     own, outcome = worked.job, worked.answer
     settings = prover(own.prover) | {"base_volume": figure(own.prover.base, BARREL)}
@@ -53,7 +75,7 @@ def proving(worked):
     runs = [read_figures(run.counts, fields.RUN) for run in own.runs]
     for run, told in zip(runs, worked.runs or ()):
         run |= told_figures(told, RUN_UNITS)
-    told = {"request": own.request, "settings": settings, "runs": runs}
+    told = {"request": own.request, "settings": settings, "runs": runs, **looked_up(own.look_up)}
     if worked.group:
         told["group"] = group(worked.group, FACTOR, bool(outcome))
     if outcome:
@@ -86,7 +108,7 @@ def draw(worked):
 
 
 def ticket(worked):
-    told = {"readings": read_figures(worked.job.counts, fields.TICKET)}
+    told = {"readings": read_figures(worked.job.counts, fields.TICKET), **looked_up(worked.job.look_up)}
     return told | ({"result": told_figures(worked.answer, TICKET_UNITS)} if worked.answer else {})
 
 

@@ -1,10 +1,12 @@
 """The kinds of job: what each holds, and what of it the line program is given. `digest` is its file's SHA-256, by which
 a page is known to be the job's; `files` are read with it because it names them, and then the digest is of all."""
 
-from dataclasses import dataclass
+from dataclasses import dataclass, replace
 
 from . import fields
+from .look_ups import LookUp
 from .profiles import UNIDIRECTIONAL, Profile
+from .records import RUN_LAYOUT
 
 
 @dataclass(frozen=True)
@@ -33,10 +35,15 @@ class Prover:
 
 @dataclass(frozen=True)
 class Entry:
-    """A run or a fill: its named counts and its record."""
+    """A run or a fill: its named counts and its record. A count that is yet to be looked up is None."""
 
     counts: dict
     record: bytes
+
+    def with_counts(self, found):
+        """A run with what was found for it; one that looks nothing up keeps the record that it was given as."""
+        counts = self.counts | found
+        return Entry(counts, RUN_LAYOUT.pack(counts)) if found else self
 
 
 @dataclass(frozen=True)
@@ -48,6 +55,7 @@ class Proving:
     k_factor: int
     limit: int
     runs: list
+    look_up: LookUp | None = None
     digest: str = ""
     files: tuple = ()
     kind = "prove"
@@ -55,6 +63,11 @@ class Proving:
     @property
     def records(self):
         return b"".join(run.record for run in self.runs)
+
+    def with_found(self, look_up):
+        """The same with what was looked up in its runs."""
+        runs = [run.with_counts(look_up.counts(number)) for number, run in enumerate(self.runs, 1)]
+        return replace(self, look_up=look_up, runs=runs)
 
     @property
     def shown(self):
@@ -83,9 +96,13 @@ class Ticket:
     path: str
     heading: dict
     counts: dict
+    look_up: LookUp | None = None
     digest: str = ""
     files: tuple = ()
     kind = "ticket"
+
+    def with_found(self, look_up):
+        return replace(self, look_up=look_up, counts=self.counts | look_up.counts(0))
 
     @property
     def shown(self):

@@ -1,8 +1,8 @@
-"""Run and fill records: the paper's 32 little-endian bytes, from named counts and back."""
+"""Run and fill records, the paper's 32 little-endian bytes, and a table's entries of 8: from named counts and back."""
 
 import struct
 
-from .fields import FILL, RUN
+from .fields import ENTRY, FILL, RUN
 
 LENGTH = 32
 # Bytes that the paper does not name; they are zero in every record that is made here.
@@ -18,7 +18,8 @@ class Layout:
         self.struct = struct.Struct("<" + "".join(fields[key].place if key else next(sizes) for key in keys))
 
     def pack(self, counts):
-        return self.struct.pack(*(counts[key] if key else b"" for key in self.keys))
+        """The record; a count that is yet to be looked up is 0 there."""
+        return self.struct.pack(*(counts[key] or 0 if key else b"" for key in self.keys))
 
     def unpack(self, record):
         return {key: value for key, value in zip(self.keys, self.struct.unpack(record)) if key}
@@ -26,3 +27,4 @@ class Layout:
 
 RUN_LAYOUT = Layout(RUN, [*RUN, UNNAMED], ["8s"])
 FILL_LAYOUT = Layout(FILL, [*list(FILL)[:-1], UNNAMED, "pressure", UNNAMED], ["1s", "12s"])
+ENTRY_LAYOUT = Layout(ENTRY, [*ENTRY, UNNAMED], ["2s"])

@@ -29,16 +29,25 @@ WORDS = {
     27: "nothing to take",
     30: "book not empty",
     31: "figures outside the rules",
+    32: "faulty or disordered record",
+    33: "no such pair",
 }
 
 
 class Detail(str):
-    """A detail in words that also has its field, value and range for machines: counts of the field's unit."""
+    """A detail in words that also has its field, value and range for machines: counts of the field's unit. One of a
+    table of compressibilities has the `line` there, and the `run` that it is looked up for."""
 
-    def __new__(cls, words, field, value=None, low=None, high=None, unit=None):
+    def __new__(cls, words, field, value=None, low=None, high=None, unit=None, line=0, run=0):
         made = super().__new__(cls, words)
         made.field, made.value, made.low, made.high, made.unit = field, value, low, high, unit
+        made.line, made.run = line, run
         return made
+
+    def placed(self, before, line=0, run=0):
+        """The same behind these words, which say where it stands."""
+        known = (self.field, self.value, self.low, self.high, self.unit)
+        return Detail(before + self, *known, line or self.line, run or self.run)
 
 
 @dataclass(frozen=True)

@@ -1,12 +1,11 @@
 """The proving report: a page that a measurement technician signs."""
 
-from . import fields, page, spreads
-from .fields import BARREL, FACTOR, LIMIT
+from . import fields, look_up_pages, page, spreads
+from .fields import BARREL, FACTOR, LIMIT, SIDES
 from .page import Grid, Notes, Octets, Page, Pairs, Section, Signatures
 from .units import shown
 
 TITLE, RIGHT = "METER PROVING REPORT", "pipe prover, API MPMS 12.2"
-SIDES = ("prover", "meter")
 # Columns by group: a heading, a unit, and what of a run it shows, a count of its record or a figure.
 READ = (
     ("", (("Pulses", "", "pulses"),)),
@@ -49,8 +48,7 @@ STEPS = (
 VOLUMES = ("indicated", "prover_volume", "meter_volume")
 # Columns whose average no entry of the program tells: it is written in by hand, as on the form of the standard.
 AVERAGED = ("pulses", "prover_temperature", "prover_pressure", "meter_temperature", "meter_pressure")
-READ_KEY = ("P in psi gage. CTL and F are given with each run.",)
-READ_KEY_OF_PE = ("P and the equilibrium pressure Pe in psi gage. CTL, F and Pe are given with each run.",)
+READ_KEY, READ_KEY_OF_PE = "P in psi gage.", "P and the equilibrium pressure Pe in psi gage."
 STEPS_KEY = (
     "CCFp = CTS x CPS x CTL x CPL, prover volume = base volume x CCFp. Indicated = pulses / K,",
     "CCFm = CTL x CPL, meter volume = indicated x CCFm. Run factor = prover volume / meter volume.",
@@ -77,13 +75,15 @@ def settings(job):
             ("Base volume", f"{fields.BASE_VOLUME.text(job.prover.base)} at 60 °F and 0 psi"),
             ("Meter K factor", fields.K_FACTOR.text(job.k_factor)),
             ("Repeatability limit", f"{LIMIT.text(job.limit)} of the smallest of five consecutive run factors"),
+            *(look_up_pages.of_job(job.look_up) if job.look_up else ()),
         ]
     )
 
 
 def cell(key, run, figures):
     if key in fields.RUN:
-        return shown(run.counts[key], fields.RUN[key].unit.places)
+        # An F that was not found has no count.
+        return shown(run.counts[key], fields.RUN[key].unit.places) if run.counts[key] is not None else ""
     return shown(figures[key], BARREL.places if key in VOLUMES else FACTOR.places)
 
 
@@ -116,12 +116,20 @@ def steps(worked):
 
 
 def keys_of(job):
-    """The notes below what was read and below the steps: a word of Pe only where a liquid has one."""
+    """The notes below what was read and below the steps: a word of Pe only where a liquid has one, and of a look-up
+    where there is one."""
     without = [side for side in SIDES if f"{side}_equilibrium_pressure" not in job.shown]
+    given = ["CTL"] if job.look_up else ["CTL", "F"]
+    looked_up = f" {look_up_pages.source(job)}" if job.look_up else ""
     if len(without) == len(SIDES):
-        return READ_KEY, STEPS_KEY
+        return [f"{READ_KEY} {given_with_each(given)}{looked_up}"], STEPS_KEY
     cpl = f"CPL = {fields.CPL_FROM_PE}" + "".join(f"; at the {side} Pe is 0" for side in without)
-    return READ_KEY_OF_PE, (f"{cpl}.", *STEPS_KEY)
+    return [f"{READ_KEY_OF_PE} {given_with_each([*given, 'Pe'])}{looked_up}"], (f"{cpl}.", *STEPS_KEY)
+
+
+def given_with_each(names):
+    *first, last = names
+    return f"{', '.join(first)} and {last} are given with each run." if first else f"{last} is given with each run."
 
 
 def repeatability(worked):
@@ -160,6 +168,8 @@ def build(worked):
     below_read, below_steps = keys_of(job)
     blocks = [*page.heading(job), Section("A. SETTINGS"), settings(job), Section("B. RUNS")]
     blocks += [readings(job, worked.accepted), Notes(below_read)]
+    if job.look_up and job.look_up.found:
+        blocks.append(look_up_pages.entries(job))
     if worked.runs:
         blocks += [steps(worked), Notes(below_steps)]
         blocks += [Section("C. REPEATABILITY"), repeatability(worked), *conclusion(worked)]

@@ -2,7 +2,7 @@
 
 from hashlib import sha256
 
-from . import faults, fields, figures, jobs, version
+from . import faults, fields, figures, jobs, look_ups, version
 from . import worked as works
 from .badfile import BadFile
 from .fields import LIMIT
@@ -39,6 +39,7 @@ def of_job(path, job, program, extras):
     row = {"job": job.kind, "SHA-256": job.digest, "files": job.files, **headings(job), **GIVEN[job.kind](job)}
     row |= extras.make(path, job, program)
     try:
+        job = look_ups.filled(job, program)
         return row | {"outcome": ACCEPTED} | ANSWERS[job.kind](job, program)
     except Refused as refused:
         told = faults.explain(job, refused.refusal, program)

@@ -1,6 +1,6 @@
 """The short pages: a measurement ticket, a live reading, numbers for the panel, a report record read back."""
 
-from . import fields, page, version
+from . import fields, look_up_pages, page, version
 from .fields import CPL_FROM_PE, FACTOR, LIVE, PANEL, READING
 from .page import Page, Pairs, Section, Signatures
 from .records import LENGTH
@@ -15,11 +15,19 @@ TICKET_LABELS = {
 
 def ticket(worked):
     job, figures = worked.job, worked.answer
-    given = Pairs([(TICKET_LABELS[key], field.text(job.counts[key])) for key, field in job.shown.items()])
-    blocks = [*page.heading(job), Section("A. READINGS AND FACTORS"), given]
+    rows = [(TICKET_LABELS[key], count_of(job, key, field)) for key, field in job.shown.items()]
+    rows += look_up_pages.of_job(job.look_up) if job.look_up else []
+    blocks = [*page.heading(job), Section("A. READINGS AND FACTORS"), Pairs(rows)]
     if figures:
         blocks += [Section("B. VOLUMES"), volumes(figures, "equilibrium_pressure" in job.shown)]
     return Page("MEASUREMENT TICKET", "API MPMS 12.2", [*blocks, Signatures("Issued")], page.verdict(worked.refusal))
+
+
+def count_of(job, key, field):
+    """A ticket's number; of an F that is looked up it is said, and also where it was not found."""
+    if job.counts[key] is None:
+        return "not found"
+    return field.text(job.counts[key]) + (", looked up" if job.look_up and key in job.look_up.counts(0) else "")
 
 
 def volumes(figures, boils):

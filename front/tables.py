@@ -16,6 +16,8 @@ class Table:
         self.slipped = set()
         # Keys that may not be left out, though a field has a default: those of a CSV's columns.
         self.needed = set()
+        # Keys that are looked up where they are left out: until then they have no count.
+        self.looked_up = frozenset()
         # A table that is not there lacks nothing more.
         self.whole = isinstance(values, dict)
         if not self.whole:
@@ -72,6 +74,8 @@ class Table:
         if default is None and field.key not in self.needed:
             default = field.default
         if field.key not in self.values:
+            if default is None and field.key in self.looked_up:
+                return None
             if default is None:
                 self.lacks(field.key, f"the {field.label}, {field.range}")
             return field.low if default is None else default

@@ -1,4 +1,5 @@
-"""A job file of each kind to begin with: it runs as it is, and says of every key what it is and its range."""
+"""A job file of each kind to begin with, and a table of compressibilities: each runs as it is, and says of every key
+what it is and its range."""
 
 from . import fields
 from .profiles import BIDIRECTIONAL, UNIDIRECTIONAL
@@ -34,11 +35,24 @@ LEFT_OUT = None
 PROVER = {"inside_diameter": "13.376", "wall_thickness": "0.312", "modulus": "30_000_000"}
 
 
-def row(field, value):
+TABLE = "table"
+# 002 prints one entry of its table, in its example.
+PRINTED = """\
+# Compressibility F, API MPMS 11.2.1 (August 1984): the entry that its text prints
+# It runs as it is: ./endakuro look-up FILE 100.0 19.9. Type the entries of the printed pages below it.
+# An entry a line, rising by gravity and then by temperature, {few} to {many:,} of them. A remark begins with #.
+# temperature {temperature} and gravity {gravity}, on half degrees.
+# F as it is printed, {f}: 0.448 stands for 0.00000448 per psi.
+temperature,gravity,F
+100.0,20.0,0.448
+"""
+
+
+def row(field, value, before=""):
     told = f" # {field.label}, {field.range}"
     if value is LEFT_OUT:
         return f"# {field.key} = {field.default}".ljust(WIDTH) + f"{told}: for a liquid that boils\n"
-    return f"{field.key} = {value}".ljust(WIDTH) + f"{told}\n"
+    return f"{before}{field.key} = {value}".ljust(WIDTH) + f"{told}\n"
 
 
 def rows(known, values):
@@ -66,7 +80,7 @@ def entries(name, known, shared, keys, listed):
 def proving():
     text = HEAD.format(what="A proving job", kind="prove") + "\n" + row(fields.REQUEST, "1")
     text += row(fields.LIMIT, "0.05") + HEADING.format(title="A proving") + prover("17.654")
-    text += "\n[meter]\n" + row(fields.K_FACTOR, "1000")
+    text += "\n[meter]\n" + row(fields.K_FACTOR, "1000") + look_up((fields.GRAVITY, "63.7"))
     shared = {
         "prover_pressure": "80", "meter_pressure": "62", "prover_ctl": "0.9975", "meter_ctl": "0.9965",
         "prover_compressibility": "8.23e-6", "meter_compressibility": "8.29e-6",
@@ -92,7 +106,21 @@ def ticket():
         "compressibility": "6.5e-6", "equilibrium_pressure": LEFT_OUT, "sediment_and_water": "0.500",
     }  # fmt: skip
     text = HEAD.format(what="A measurement ticket", kind="ticket") + HEADING.format(title="A ticket")
-    return text + "\n[ticket]\n" + rows(fields.TICKET, values)
+    text += "\n[ticket]\n" + rows(fields.TICKET, values)
+    return text + look_up((fields.TEMPERATURE, "64.5"), (fields.GRAVITY, "63.7"))
+
+
+def look_up(*values):
+    """What a job file says in place of F, as a note."""
+    text = "\n# [compressibility] # in place of F, which is looked up where it is left out\n"
+    text += "".join(row(field, value, "# ") for field, value in values)
+    return text + '# table = "table.csv"'.ljust(WIDTH) + " # its name, beside this file: ./endakuro new table\n"
+
+
+def table():
+    known = {field.key.lower(): field.range for field in fields.ENTRY.values()}
+    few, many = fields.ENTRIES
+    return PRINTED.format(few=few, many=many, **known)
 
 
 def live():
@@ -113,4 +141,5 @@ TEXTS = {
     "ticket": ticket(),
     "live": live(),
     "panel": panel(),
+    TABLE: table(),
 }

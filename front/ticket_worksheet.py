@@ -1,5 +1,6 @@
 """A measurement ticket as a spreadsheet, on whole counts as the proving worksheet is."""
 
+from . import look_up_pages
 from .sheet import Sheet, Step
 from .worksheet import UNIT, cpl
 
@@ -23,7 +24,8 @@ def build(worked):
     sheet = Sheet("Ticket worksheet", job)
     sheet.note("1. TICKET", "Unit of one", "")
     for key, field in job.shown.items():
-        sheet.row(key, field.label, field.unit.step, "read", [job.counts[key]])
+        sheet.row(key, field.label, field.unit.step, look_up_pages.how(job, key), [job.counts[key]])
+    look_up_pages.on_sheet(sheet, job, [0])
     sheet.note("2. STEPS", "Unit of one", "each rounded once, halves up")
     sheet.steps(steps, 1)
     sheet.note("3. RESULT", "Unit of one", "")

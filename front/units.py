@@ -19,7 +19,7 @@ CELSIUS = ("c", "celsius", "centigrade")
 FOREIGN = (*CELSIUS, "k", "kelvin", "kpa", "mpa", "bar", "barg", "psia", "mm", "cm", "m", "m3", "l", "gal", "ft")
 
 
-# Every spelling of every unit.
+# Every spelling that is a unit's and nothing else.
 SPELLED = set()
 
 
@@ -37,9 +37,11 @@ class Unit:
     spellings: tuple = ()
     of_one: str = ""
     in_words: str = ""
+    # Whether its spellings behind a heading are words for it alone; API is also who publishes a table.
+    alone: bool = True
 
     def __post_init__(self):
-        SPELLED.update(self.spellings)
+        SPELLED.update(self.spellings if self.alone else ())
 
     @property
     def step(self):

@@ -25,7 +25,8 @@ COUNTS = "Counts"
 # '0.0001 bbl' has four decimals and the unit bbl, '1 psi' none.
 UNIT_OF_ONE = re.compile(r"(?:1|0\.(0*1))(?: (.+))?")
 # Rows without a unit that people want to see.
-PLAIN = ("out_pass", "back_pass", "any", "first_trip", "first", "told_first", "agree")
+PLAIN = ("out_pass", "back_pass", "any", "first_trip", "first", "told_first", "agree", "table")
+PLAIN += ("prover_compressibility_line", "meter_compressibility_line", "compressibility_line")
 
 
 def library():

@@ -2,7 +2,7 @@
 
 from dataclasses import dataclass
 
-from . import faults, fields, figures
+from . import faults, fields, figures, look_ups
 from .profiles import BIDIRECTIONAL
 from .program import Refused
 from .refusals import Explained
@@ -97,4 +97,8 @@ WORKERS = {"prove": prove, "draw": draw, "ticket": ticket, "live": live, "panel"
 
 
 def work(job, program):
+    try:
+        job = look_ups.filled(job, program)
+    except Refused as refused:
+        return Worked(refused.refusal.job, refusal=faults.explain(job, refused.refusal, program))
     return WORKERS[job.kind](job, program)

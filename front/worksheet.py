@@ -3,7 +3,7 @@
 Every figure is a whole count of its unit, and every ROUND is of a quotient of whole numbers: docs/WORKSHEET.md says why
 no digit slips. The last part shows the same figures with their points."""
 
-from . import fields
+from . import fields, look_up_pages
 from .sheet import Sheet, Step
 
 FIVE = fields.GROUP_OF_RUNS
@@ -60,7 +60,8 @@ def build(worked):
     settings(sheet, job)
     sheet.note("2. RUNS", "Unit of one", "", *(f"run {at + 1}" for at in range(count)))
     for key, field in job.shown.items():
-        sheet.row(key, field.label, field.unit.step, "read", [run.counts[key] for run in job.runs])
+        sheet.row(key, field.label, field.unit.step, look_up_pages.how(job, key), [run.counts[key] for run in job.runs])
+    look_up_pages.on_sheet(sheet, job, range(1, count + 1))
     sheet.note("3. STEPS", "Unit of one", "each rounded once, halves up")
     sheet.steps(steps, count)
     sheet.note("4. FIVE IN A ROW", "", "beginning with", *(f"run {at + 1}" for at in range(count - FIVE + 1)))

@@ -23,7 +23,8 @@
  *   10   ticket field out of range, or P below Pe        27  nothing to take
  *   11   closing below opening                           30  book not empty
  *   12   reading not finite                              31  figures outside the rules
- *   13   reading, or number for the panel, out of range
+ *   13   reading, number for the panel, or number to     32 * table record faulty or out of order
+ *        look up, out of range                           33  no such pair in the table
  *
  * UNITS AND RANGES, whole numbers all of them. Outside its range a number is refused, never bent.
  *
@@ -46,14 +47,16 @@
  *   sediment and water S               0.001 %                    0 to 100000
  *   runs in a job, passes and fills    one                        5 to 20, 3 to 20 and 3 to 60
  *   passes of a bidirectional prover   one                        6 to 20, an even number
+ *   API gravity                        0.1 °API                   0 to 900
+ *   records of a table                 one                        1 to 4,096
  *
  * Every result is rounded once, to the unit that is named with it, halves upward. A live reading and a number for
- * the panel are rounded once too, each as it says.
+ * the panel are rounded once too, each as it says; a number to look up goes to its nearest half degree.
  *
  * BYTES are lent as a pointer and a length. The pointer is never NULL, also where the length is 0. Lent
  * records and a lent buffer do not overlap.
  *
- * RECORDS have 32 bytes each, little-endian; bytes without a name are zero.
+ * RECORDS have 32 bytes each, those of a table 8, little-endian; bytes without a name are zero.
  *   Run:    0 pulses (4), 4 prover T (signed 2), 6 meter T (signed 2), 8 prover P, 10 meter P, 12 prover CTL,
  *           14 meter CTL, 16 prover F, 18 meter F, 20 prover Pe, 22 meter Pe (2 each)
  *   Fill:   0 certified volume (4; 20,000 to 100,000,000 in 0.01 cubic inch), 4 scale reading (signed 2;
@@ -62,6 +65,8 @@
  *           or skip; all fills of a pass carry one pressure
  *   Report: 0 request number (4), 4 job factor (2), 6 first run used (1), 7 runs in job (1), 8 the five
  *           factors (2 each)
+ *   Table:  0 temperature (signed 2), 2 API gravity (2), 4 F (2). Temperature and gravity are on a half degree,
+ *           multiples of 5; records rise by gravity and then temperature, and no pair stands twice
  *
  * FROM A HEADER WITHOUT Pe, three things have moved; with Pe 0 the answers are those of before.
  *   CPL takes Pe as its third argument: a call with two is an error.
@@ -313,6 +318,25 @@ EndakuroPanel endakuro_panel_temperature(int16_t tenths);
 /* A pressure, 0 to 1500 psi gage, as the single that is exactly that number. Refuses 13. */
 EndakuroPanel endakuro_panel_pressure(uint16_t psi);
 
+/* ---- Compressibility, looked up ----
+ *
+ * The F that cpl, a run or a ticket takes, from the printed 11.2.1 table as the caller lends it: a part of it, or as
+ * much as 4,096 records hold. The printed table decides, and nothing is worked out between its entries. */
+
+typedef struct EndakuroEntry {
+    uint16_t number;
+    uint16_t record;
+    int16_t temperature;      /* of the record found, 0.1 °F */
+    uint16_t gravity;         /* 0.1 °API */
+    uint16_t compressibility; /* F, 10^-8 per psi */
+} EndakuroEntry;
+
+/* The record with this temperature, -200 to 2000 in 0.1 °F, and this API gravity, 0 to 900 in 0.1 °API, each taken to
+ * the nearest half degree first. Refuses 1 for the length; 32 with the first record that is faulty or does not come
+ * behind the one before it; 13 for temperature or gravity as they are asked; then 33. The whole table is judged before
+ * 13, in one pass. */
+EndakuroEntry endakuro_look_up(int16_t temperature, uint16_t gravity, const uint8_t *table, size_t length);
+
 /* ---- The book of waiting requests ----
  *
  * Four shippers, 0 to 3, share one prover and 16 places. Each has two figures of its own, by agreement: its reserve,
@@ -496,6 +520,12 @@ ENDAKURO_SIZE(EndakuroLive, 8);
 ENDAKURO_AT(EndakuroPanel, record, 2);
 ENDAKURO_AT(EndakuroPanel, shown, 4);
 ENDAKURO_SIZE(EndakuroPanel, 8);
+
+ENDAKURO_AT(EndakuroEntry, record, 2);
+ENDAKURO_AT(EndakuroEntry, temperature, 4);
+ENDAKURO_AT(EndakuroEntry, gravity, 6);
+ENDAKURO_AT(EndakuroEntry, compressibility, 8);
+ENDAKURO_SIZE(EndakuroEntry, 10);
 
 ENDAKURO_AT(EndakuroLine, count, 64);
 ENDAKURO_SIZE(EndakuroLine, 72);

@@ -7,6 +7,7 @@ import book
 import draw
 import group
 import live
+import lookup
 import proving
 import ranges
 import report
@@ -179,6 +180,10 @@ def answer_panel_pressure(psi):
     return ok(single_octets(live.panel_pressure(psi)))
 
 
+def answer_look_up(temperature, gravity, table):
+    return ok(*lookup.look_up(temperature, gravity, table))
+
+
 def answer_spread(*values):
     return ok(*group.spread(values))
 
@@ -265,6 +270,7 @@ ENTRIES = {
     b"live": ((single, single), answer_live),
     b"panel_temperature": ((i16,), answer_panel_temperature),
     b"panel_pressure": ((u16,), answer_panel_pressure),
+    b"look_up": ((i16, u16, octets), answer_look_up),
     b"spread": (List(u64, 20), answer_spread),
     b"write": ((u32, u8, u8, *(u16,) * 5, octets), answer_write),
     b"read": ((octets,), answer_read),

@@ -1,12 +1,13 @@
 """Units and ranges (01, Units and ranges; Ticket; Records), both ends inside; what a liquid's
-pressure may be (02, Liquids that boil), and how many passes (02, Bidirectional provers)."""
+pressure may be (02, Liquids that boil), how many passes (02, Bidirectional provers), and what a
+table of compressibilities holds (02, Look up compressibility)."""
 
 
 def span(first, last):
     return range(first, last + 1)
 
 
-TEMPERATURE = span(-200, 2000)  # 0.1 °F, prover and meter
+TEMPERATURE = span(-200, 2000)  # 0.1 °F, prover and meter; look-up
 DRAW_PROVER_TEMPERATURE = span(350, 1050)  # 0.1 °F
 DRAW_MEASURE_TEMPERATURE = span(321, 1050)  # 0.1 °F
 PRESSURE = span(0, 1500)  # psi gage
@@ -30,6 +31,8 @@ CERTIFIED_VOLUME = span(20_000, 100_000_000)  # 0.01 cubic inch
 SCALE_READING = span(-10000, 10000)  # 0.01 cubic inch
 METER_READING = span(0, 99_999_999)  # 0.01 barrel
 SEDIMENT_AND_WATER = span(0, 100_000)  # 0.001 %
+GRAVITY = span(0, 900)  # 0.1 °API
+TABLE_RECORDS = span(1, 4096)
 
 
 def liquid_stands(pressure, compressibility, equilibrium):

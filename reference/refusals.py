@@ -1,4 +1,4 @@
-"""The numbers given back (01, Numbers given back; 02 adds 30 and 31)."""
+"""The numbers given back (01, Numbers given back; 02 adds 30 to 33)."""
 
 
 class Refused(Exception):
@@ -35,3 +35,5 @@ NOT_WAITING = 26
 NOTHING_TO_TAKE = 27
 BOOK_NOT_EMPTY = 30
 FIGURES_OUTSIDE_RULES = 31
+TABLE_RECORD = 32
+NO_SUCH_PAIR = 33

@@ -26,7 +26,7 @@ LINE_PROGRAM = [str(ROOT / "tests" / "endakuro")]
 # Entries of the line program that the C face has not.
 OTHERS = {"spread"}
 RUN = str(ROOT / "tests" / "c" / "run")
-EXAMPLES = ("skid", "round_trips", "agreement")
+EXAMPLES = ("skid", "round_trips", "agreement", "compressibility")
 
 ONLY_HEADER = b"#include <endakuro.h>\n"
 STRICT = ["-Wall", "-Wextra", "-Wpedantic", "-Werror"]
@@ -135,7 +135,7 @@ def example(name):
 
 def main():
     options = argparse.ArgumentParser(description="Test the C face.")
-    options.add_argument("--lines", type=int, default=50_000)
+    options.add_argument("--lines", type=int, default=56_000)
     options.add_argument("--seed", type=int, default=2)
     chosen = options.parse_args()
     try:

@@ -5,8 +5,8 @@ Run: python3 tests/compare.py --program CMD [--lines N] [--seed S] [--told DIR]
      python3 tests/compare.py --ahead DIR     the reference's answers alone, kept for --told DIR
 
 Ends with 0 exactly when no answer differs and every entry and number was reached, each place where
-an equilibrium pressure can stand, every kind of bidirectional draw and of book call, and all that
-the panel can be shown.
+an equilibrium pressure can stand, every kind of bidirectional draw, look-up and book call, and all
+that the panel can be shown.
 """
 
 import argparse
@@ -16,10 +16,10 @@ from concurrent.futures import ThreadPoolExecutor
 from itertools import islice
 
 import draw_kinds
+import lookup_kinds
 from book_kinds import BookKinds
 from cases import cases
 from cases.grammar import NAMES
-from cases.shapes import Draw
 from outcomes import BAD, NONE, OK, outcome, record_of
 from programs import REFERENCE, Stopped, command, is_silent, run
 from shown import Shown
@@ -47,6 +47,7 @@ REACHES = {
     "live": (OK, 12, 13),
     "panel_temperature": (OK, 13),
     "panel_pressure": (OK, 13),
+    "look_up": (OK, 1, 32, 13, 33),
     "spread": (OK, 9),
     "write": (OK, 14, 22, 15),
     "read": (OK, 14, 15),
@@ -60,6 +61,9 @@ REACHES = {
     "empty": (OK,),
 }
 
+
+# What a line of these entries reaches is told from the line alone.
+TOLD_BY_LINE = {entry: kinds for kinds in (draw_kinds, lookup_kinds) for entry in kinds.ENTRIES}
 
 # What each entry answers where P is below Pe.
 BELOW_EQUILIBRIUM = {"cpl": 5, "ticket": 10, "prove": 5, "runs": NONE, "run": 5}
@@ -95,7 +99,7 @@ class Comparison:
         self.lines = 0
         self.reached = Counter()
         self.stood = Counter()
-        self.drawn = Counter()
+        self.kinds = Counter()
         self.booked = BookKinds()
         self.shown = Shown()
         self.differences = 0
@@ -133,9 +137,9 @@ class Comparison:
         if what != BAD:
             for side, where in standings(entry, line, record_of(answer)):
                 self.stood[entry, side, where, what] += 1
-        if what != BAD and entry in draw_kinds.ENTRIES:
-            for kind in {*draw_kinds.reached(Draw.read(line.removesuffix(b"\r")))}:
-                self.drawn[entry, what, kind] += 1
+        if what != BAD and entry in TOLD_BY_LINE:
+            for kind in {*TOLD_BY_LINE[entry].reached(line.removesuffix(b"\r"))}:
+                self.kinds[entry, what, kind] += 1
 
     def differ(self, lines, at, expected, found):
         self.differences += 1
@@ -168,9 +172,9 @@ class Comparison:
                 ]
         missing += [
             f"{entry} {what} with {kind}"
-            for entry in draw_kinds.ENTRIES
-            for what, kind in draw_kinds.wanted(entry)
-            if not self.drawn[entry, what, kind]
+            for entry, kinds in TOLD_BY_LINE.items()
+            for what, kind in kinds.wanted(entry)
+            if not self.kinds[entry, what, kind]
         ]
         missing += self.booked.missing()
         missing += self.shown.missing()

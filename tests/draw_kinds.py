@@ -3,13 +3,15 @@ passes come to."""
 
 import precedence
 import trip_kinds
+from cases.shapes import Draw
 from faults import OF_COUNT, UNNAMED, faults
 from round_trips import Trips
 
 ENTRIES = ("bidirectional", "trips")
 
 
-def reached(draw):
+def reached(text):
+    draw = Draw.read(text)
     found = [*faults(draw)]
     kinds = {fault.kind for fault in found}
     trips = Trips(draw) if kinds <= {UNNAMED, *OF_COUNT} else None

@@ -1,12 +1,14 @@
-"""The figures to hold against (01), 000's propane, 003's bidirectional prover and the ends of what
-shippers may agree on (02): each through the line program.
+"""The figures to hold against (01), 000's propane, 003's bidirectional prover, the ends of what
+shippers may agree on and of what can be looked up (02): each through the line program.
 
 Run: python3 tests/figures.py [--program CMD]
 """
 
 import argparse
 import sys
+from itertools import islice, product
 
+from cases.lookup_shapes import GRAVITIES, TEMPERATURES, LookUp, Row
 from cases.plain import plain_job
 from cases.shapes import Draw, Fill, Job, Prover, Report, Run, line
 from cases.singles import bits, reading
@@ -143,6 +145,78 @@ def agreement_figures():
     yield "the figures are those of before", line("figures"), "ok 4 4 4 4 8 4 4 4 0 0"
 
 
+# 002's example, 20.0 °API at 100 °F, with half degrees beside it.
+COLDER, OWN, WARMER = Row(995, 200, 447), Row(1000, 200, 448), Row(1005, 200, 449)
+NEXT_GRAVITY = Row(-200, 205, 300)
+
+
+def looked_up(temperature, gravity, rows=(COLDER, OWN, WARMER, NEXT_GRAVITY), tail=b""):
+    return LookUp(temperature, gravity, tuple(rows), tail).line
+
+
+def found(row):
+    return f"ok {row.temperature} {row.gravity} {row.compressibility}"
+
+
+def look_up_figures():
+    """"The asked temperature .. and gravity .. go to the nearest half degree first"; "refused
+    exactly when the table has none"."""
+    yield "19.9 °API at 100 °F", looked_up(1000, 199), "ok 1000 200 448"
+    yield "two tenths go down", looked_up(1002, 202), found(OWN)
+    yield "three go up", looked_up(1003, 198), found(WARMER)
+    yield "two tenths below go up", looked_up(998, 200), found(OWN)
+    yield "three go down", looked_up(997, 201), found(COLDER)
+    yield "the next gravity", looked_up(-198, 203), found(NEXT_GRAVITY)
+    below_zero = (Row(-5, 0, 1), Row(0, 0, 2))
+    yield "-0.3 °F", looked_up(-3, 0, below_zero), "ok -5 0 1"
+    yield "-0.2 °F", looked_up(-2, 2, below_zero), "ok 0 0 2"
+    yield "100.8 °F is nearer to 101.0", looked_up(1008, 199), "refused 33 0"
+    yield "no such temperature at that gravity", looked_up(1000, 205), "refused 33 0"
+
+
+def look_up_ends():
+    """-20.0 to 200.0, 0.0 to 90.0, F to 10000, "One to 4,096 records"."""
+    corners = (Row(-200, 0, 0), Row(2000, 0, 1), Row(-200, 900, 9999), Row(2000, 900, 10000))
+    for row in corners:
+        yield "an end of the table", looked_up(*row[:2], corners), found(row)
+    for temperature, gravity in ((-201, 0), (2001, 0), (-200, 901), (2000, 901), (-201, 901)):
+        yield "past an end", looked_up(temperature, gravity, corners), "refused 13 0"
+    yield "one record", looked_up(-200, 0, corners[:1]), found(corners[0])
+    pairs = product(GRAVITIES, TEMPERATURES)
+    many = [Row(temperature, gravity) for gravity, temperature in islice(pairs, 4097)]
+    last = many[4095]
+    yield "4,096 records", looked_up(*last[:2], many[:4096]), found(last)
+    yield "4,097 records", looked_up(*last[:2], many), "refused 1 0"
+    yield "no record", looked_up(-200, 0, ()), "refused 1 0"
+    yield "no record, past an end", looked_up(-201, 0, ()), "refused 1 0"
+    yield "seven bytes", looked_up(-200, 0, (), bytes(7)), "refused 1 0"
+    yield "a record and a byte", looked_up(-200, 0, corners[:1], bytes(1)), "refused 1 0"
+
+
+def look_up_faults():
+    """"1 for length, 32 for a faulty or disordered record with its place, 13 for the asked numbers,
+    33 for no such pair, in that order"; the first such record is told, of two the later one."""
+    for name, row in (
+        ("a temperature below -20.0", Row(-205, 205)),
+        ("a temperature above 200.0", Row(2005, 205)),
+        ("a gravity above 90.0", Row(1000, 905)),
+        ("F above 10000", Row(1000, 205, 10001)),
+        ("a temperature off the half degree", Row(1001, 205)),
+        ("a gravity off the half degree", Row(1000, 206)),
+        ("byte 6", Row(1000, 205, 448, 1, 0)),
+        ("byte 7", Row(1000, 205, 448, 0, 1)),
+        ("a gravity that falls", Row(1010, 195)),
+        ("a temperature that falls", Row(1000, 200)),
+        ("a pair twice", Row(1005, 200)),
+    ):
+        faulty = (COLDER, OWN, WARMER, row, Row(2000, 900, 10001))
+        yield name, looked_up(1000, 200, faulty), "refused 32 4"
+        yield f"{name}, before 13", looked_up(2001, 200, faulty), "refused 32 4"
+        yield f"{name}, before 33", looked_up(0, 0, faulty), "refused 32 4"
+        yield f"{name}, behind 1", looked_up(1000, 200, faulty, bytes(1)), "refused 1 0"
+    yield "13 before 33", looked_up(2003, 199), "refused 13 0"
+
+
 PARTS = (
     factor_figures,
     run_figure,
@@ -154,6 +228,9 @@ PARTS = (
     live_figures,
     book_figures,
     agreement_figures,
+    look_up_figures,
+    look_up_ends,
+    look_up_faults,
 )
 
 

@@ -10,9 +10,10 @@ one fail. With --program the program under test must give the reference's answer
 import argparse
 import sys
 from decimal import ROUND_HALF_UP, Decimal
-from itertools import cycle, islice
+from itertools import cycle, islice, product
 
 from cases.arithmetic import half_up
+from cases.lookup_shapes import GRAVITIES, TEMPERATURES, LookUp, Row, beside
 from cases.shapes import Draw, Fill, Job, Prover, Run, Ticket, line
 from programs import REFERENCE, Stopped, answers_of, command
 from worked import WorkedDraws, fill_of, nearest_units, plain_fill, rows, units
@@ -20,6 +21,7 @@ from worked import WorkedDraws, fill_of, nearest_units, plain_fill, rows, units
 FILES = (
     "cts_tables cts_points cps_table cps_points cpl_points ccts_points ctdw_points"
     " fills passes trips draws barrels provings proving_runs tickets repeatability"
+    " half_degrees compressibilities"
 ).split()
 
 # By a prover's type the entry that answers its base volume, and the one that answers what that is
@@ -294,6 +296,39 @@ def repeatability(tables):
             row["source_says"],
             lambda answers, asked=asked: "accept" if answers[asked].startswith(b"ok") else "reject",
         )
+
+
+# In the order in which an answer to a look-up has them; any will do where the other is printed.
+ANY_PAIR = {"temperature": 1000, "gravity": 200}
+PAIR = (*ANY_PAIR,)
+
+
+def entries_around(temperature, gravity, factor=0):
+    """The entry and the half degrees beside it, which have other compressibilities."""
+    own = temperature, gravity
+    pairs = product(beside(gravity, GRAVITIES), beside(temperature, TEMPERATURES))
+    return tuple(
+        Row(*pair, factor if pair == own else factor + more)
+        for more, pair in enumerate(((t, g) for g, t in pairs), 1)
+    )
+
+
+def half_degrees(tables):
+    for row in rows("half_degrees"):
+        quantity, printed = row["quantity"], row["printed_half_degree"]
+        entry = ANY_PAIR | {quantity: units(printed, 1)}
+        asked = ANY_PAIR | {quantity: units(row["asked"], 1)}
+        text = LookUp(**asked, rows=entries_around(**entry)).line
+        tables.answered(row["place"], quantity, printed, text, PAIR.index(quantity), 1)
+
+
+def compressibilities(tables):
+    for row in rows("compressibilities"):
+        factor = units(row["printed_compressibility"], 3)
+        entry = (units(row[f"entry_{name}"], 1) for name in PAIR)
+        asked = (units(row[name], 1) for name in PAIR)
+        text = LookUp(*asked, entries_around(*entry, factor)).line
+        tables.answered(row["place"], "F", row["printed_compressibility"], text, 2, 3)
 
 
 def main():

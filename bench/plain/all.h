@@ -2,6 +2,7 @@
 #include "book.h"
 #include "draw.h"
 #include "live.h"
+#include "lookup.h"
 #include "panel.h"
 #include "proving.h"
 #include "quotient.h"

@@ -255,6 +255,14 @@ static void tell_panel(EndakuroPanel r) {
     if (r.number == 0) printf(" %08x", bits);
 }
 
+static void look_up(void) {
+    int16_t temperature = signed_number();
+    uint16_t gravity = (uint16_t)number();
+    lend(&records);
+    EndakuroEntry r = endakuro_look_up(temperature, gravity, lent_bytes(&records), records.length);
+    tell(r.number, r.record, VALUES(r.temperature, r.gravity, r.compressibility));
+}
+
 static void panel_temperature(void) {
     tell_panel(endakuro_panel_temperature(signed_number()));
 }
@@ -378,6 +386,7 @@ static const struct {
     {"live", live},
     {"panel_temperature", panel_temperature},
     {"panel_pressure", panel_pressure},
+    {"look_up", look_up},
     {"write", write},
     {"read", read},
     {"request", request},

@@ -10,6 +10,7 @@ from . import (
     draws,
     factors,
     grammar,
+    lookups,
     panels,
     provings,
     reports,
@@ -33,6 +34,7 @@ AIMED = (
     grammar,
     trips,
     agreements,
+    lookups,
 )
 
 
@@ -52,6 +54,7 @@ def by_chance(rng):
         (2, panels),
         (6, reports),
         (6, spreads),
+        (6, lookups),
         (12, grammar),
     )
     weights = [weight for weight, _ in parts]

@@ -13,6 +13,7 @@ VOLUME = (1, 100_000_000)
 PULSES = (1, 100_000_000)
 K_FACTOR = (1, 1_000_000_000)
 LIMIT = (1, 100)
+GRAVITY = (0, 900)
 
 U16 = (0, 2**16 - 1)
 U32 = (0, 2**32 - 1)
@@ -60,6 +61,13 @@ TICKET = {
     "equilibrium_pressure": (PRESSURE, U16),
     "sediment": ((0, 100_000), U32),
 }
+
+ASKED = {
+    "temperature": (TEMPERATURE, I16),
+    "gravity": (GRAVITY, U16),
+}
+
+TABLE_ROW = {**ASKED, "compressibility": (COMPRESSIBILITY, U16)}
 
 
 def around(ends):

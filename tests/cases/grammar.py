@@ -1,8 +1,9 @@
 """Cases of the grammar: operands at the ends of their types, malformed, missing and left over;
 damaged lines, wild bytes and long lines."""
 
-from . import draws, factors, panels, provings, reports, singles, spreads, tickets, trips
+from . import draws, factors, lookups, panels, provings, reports, singles, spreads, tickets, trips
 from .book_shapes import NEW, load
+from .lookup_shapes import ROW, LookUp, Row
 from .plain import plain_trips
 from .shapes import Draw, Fill, Job, Prover, Report, Run, Ticket, line
 
@@ -10,7 +11,7 @@ LONGEST = 524_288
 
 NAMES = (
     "cts cps cpl prove runs run draw fill passes bidirectional trips ticket live"
-    " panel_temperature panel_pressure spread write read"
+    " panel_temperature panel_pressure look_up spread write read"
     " request withdraw take book set figures load empty"
 ).split()
 
@@ -20,6 +21,7 @@ def examples():
     job = Job((Run(),) * 5)
     draw = Draw(tuple(Fill(pass_number=number) for number in (1, 2, 3)))
     out_and_back = plain_trips([(1_155_000, 1_158_000)] * 3)
+    table = (Row(-5, 195, 431), Row(995, 200, 447), Row(1000, 200, 448))
     report = Report()
     return [
         line("cts", 700, 4, 250, 4),
@@ -39,6 +41,8 @@ def examples():
         line("panel_temperature", 733),
         line("panel_temperature", -5),
         line("panel_pressure", 40),
+        LookUp(1000, 199, table).line,
+        LookUp(-4, 195, table).line,
         line("spread", 9964, 9963, 9962),
         report.write,
         report.read,
@@ -179,6 +183,7 @@ def names():
     # a name of two words is one word of the line
     yield from (b"panel 733", b"panel_ 733", b"panel temperature 733", b"panel-temperature 733")
     yield from (b"panel_temperature_733", b"panel_temperature panel_temperature 733")
+    yield from (b"look up 0 0 -", b"look_ up 0 0 -", b"look-up 0 0 -", b"lookup 0 0 -")
     yield from (b"help", b"quit", b"ok", b"bad line", b"refused 1 0", b"-", b"0", b"\xff", b"?")
 
 
@@ -207,6 +212,7 @@ def long_lines(rng):
     yield b"prove 7 " + prover + job + b"5a" * 200_000 + b" -"
     for name in (b"passes ", b"bidirectional "):
         yield filled(name + prover + b" ", Fill().packed.hex().encode(), LONGEST)
+    yield filled(b"look_up 1000 200 ", ROW.pack(*Row(1000, 200)).hex().encode(), LONGEST)
     yield b"write 7 6 2 8000 8000 8000 8000 8000 " + rng.randbytes(250_000).hex().encode()
 
 
@@ -229,6 +235,7 @@ def good_line(rng):
             panels.by_chance,
             reports.by_chance,
             spreads.by_chance,
+            lookups.by_chance,
             lambda of: of.choice(examples()),
         )
     )(rng)
@@ -257,7 +264,7 @@ def damaged(rng):
 
 def marred_record(rng):
     """A good line of records with one hex digit changed, so that the grammar still stands."""
-    parts = (provings, draws, trips, reports)
+    parts = (provings, draws, trips, reports, lookups)
     octets = bytearray(rng.choice(parts).by_chance(rng))
     start = octets.rindex(b" ") + 1
     octets[rng.randrange(start, len(octets))] = rng.choice(b"0123456789abcdef")

@@ -2,6 +2,7 @@
 
 import random
 import re
+import shutil
 import tempfile
 from pathlib import Path
 
@@ -44,6 +45,8 @@ def test():
     outcomes = {}
     with tempfile.TemporaryDirectory() as folder, Program() as program:
         path = Path(folder) / "job.toml"
+        for named in (ROOT / "examples").rglob("*.csv"):
+            shutil.copy(named, folder)
         for number in range(FILES):
             text = rng.choice(texts)
             for _ in range(rng.randint(1, 3)):

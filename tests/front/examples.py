@@ -42,6 +42,33 @@ SHOWN = {
     "ticket.toml": ("500.00 bbl", "0.9913", "495.65 bbl", "493.17 bbl"),
     "ticket-figure-7.toml": ("0.9898", "52,587.08 bbl", "52,508.20 bbl"),
     "ticket-propane.toml": ("115 psi", "1.0080", "0.9420", "9,420.00 bbl"),
+    "looked-up.toml": (
+        "Compressibility table     table-for-trying.csv\n",
+        "Table says                Made for trying: this is not the printed table of API MPMS 11.2.1\n",
+        "API gravity               63.7 °API at 60 °F, found at 63.5 °API\n",
+        "3 * | 17,746 | 63.5   80 0.9975 0.00000825 | 64.5   62 0.9965 0.00000829\n",
+        "F is looked up by T and the gravity.\n",
+        "\n   63.0  63.0 0.00000823    5\n   63.5  63.5 0.00000825    6\n   64.0  64.0 0.00000827    7\n",
+        "\n   64.5  64.5 0.00000829    8\n   65.5  65.5 0.00000833   10\n",
+        "Meter factor              0.9963",
+    ),
+    "ticket-looked-up.toml": (
+        "Compressibility F         0.00000829 per psi, looked up\n",
+        "API gravity               63.7 °API at 60 °F, found at 63.5 °API\n",
+        "Temperature               64.6 °F, found at 64.5 °F, line 8 of the table\n",
+        "496.11 bbl",
+    ),
+    "printed-entry.csv": (
+        "ASKED\n   Temperature               100.0 °F\n   API gravity               19.9 °API\n",
+        "FOUND\n   Temperature               100.0 °F\n   API gravity               20.0 °API\n",
+        "Compressibility F         0.00000448 per psi, printed as 0.448 / 100,000\n",
+        "Entry                     line 5 of the table\n",
+    ),
+    "table-for-trying.csv": (
+        "Table says                Made for trying: this is not the printed table of API MPMS 11.2.1\n",
+        "Compressibility F         0.00000829 per psi, printed as 0.829 / 100,000\n",
+        "Entry                     line 8 of the table\n",
+    ),
     "live.toml": (
         "73.3 °F, from 73.25 °F",
         "40 psi, from 40 psi",
@@ -74,6 +101,9 @@ COMMANDS = {
     "ticket.toml": "ticket",
     "ticket-figure-7.toml": "ticket",
     "ticket-propane.toml": "ticket",
+    "ticket-looked-up.toml": "ticket",
+    "printed-entry.csv": "look-up",
+    "table-for-trying.csv": "look-up",
     "live.toml": "live",
     "panel.toml": "panel",
     "report-7.record": "read",
@@ -82,15 +112,16 @@ COMMANDS = {
 }
 
 # Refusals are named by their command, or by the profile of a draw.
-NAMED = {"bidirectional": "draw"}
+NAMED = {"bidirectional": "draw", "lookup": "look-up"}
 
 # 01's table, with what 02 adds: the numbers that each command can give. prove lends 32 bytes itself, so 14 cannot arise
-# there.
+# there; a proving and a ticket may be refused for what they look up.
 NUMBERS = {
-    "prove": {1, 2, 3, 4, 5, 7, 8, 9, 22},
+    "prove": {1, 2, 3, 4, 5, 7, 8, 9, 13, 22, 32, 33},
     "draw": {1, 2, 3, 5, 6, 9},
     "bidirectional": {1, 2, 3, 5, 6, 9},
-    "ticket": {10, 11},
+    "ticket": {1, 10, 11, 13, 32, 33},
+    "lookup": {1, 13, 32, 33},
     "live": {12, 13},
     "panel": {13},
     "read": {14, 15},
@@ -106,9 +137,9 @@ WORDS = {
     14: "report buffer not 32 bytes", 15: "not a report", 20: "book not sound", 21: "unknown shipper",
     22: "number zero", 23: "already waiting", 24: "ceiling reached",
     25: "has its reserve or more and commons full", 26: "withdrawn number not waiting", 27: "nothing to take",
-    30: "book not empty", 31: "figures outside the rules",
+    30: "book not empty", 31: "figures outside the rules", 32: "faulty or disordered record", 33: "no such pair",
 }  # fmt: skip
-SAID = "# refused: "
+SAID, ASKED = "# refused: ", "# asked: "
 RECORD_WORDS = {
     "read-14-cut-short.record": "record has 31 bytes, range 32",
     "read-15-not-the-mean.record": "job factor is 1.0003, range the rounded mean of the five",
@@ -120,7 +151,7 @@ def accepted(tally):
     names = {path.name for path in FOLDER.iterdir() if path.is_file()} - others
     tally.same(names, set(SHOWN), "files of examples/")
     for name in sorted(names & set(SHOWN)):
-        status, out, err = run(COMMANDS.get(name, "prove"), FOLDER / name)
+        status, out, err = run(COMMANDS.get(name, "prove"), FOLDER / name, *asked_of(FOLDER / name))
         tally.same((status, err), (0, ""), f"{name}: status and complaints")
         for part in SHOWN[name]:
             tally.holds(out, part, name)
@@ -130,6 +161,12 @@ def named(path):
     """What a refusal's name says: its command, its number."""
     first, number = path.name.split("-")[:2]
     return NAMED.get(first, first), int(number)
+
+
+def asked_of(path):
+    """What stands behind the file on the command line: the temperature and the gravity that a table's example says."""
+    lines = path.read_text().splitlines() if path.suffix == ".csv" else []
+    return [word for line in lines if line.startswith(ASKED) for word in line.removeprefix(ASKED).split()]
 
 
 def told_in(path):
@@ -146,7 +183,7 @@ def refused(tally):
         command, number = named(path)
         given.setdefault(path.name.split("-")[0], set()).add(number)
         words = told_in(path)
-        status, out, err = called(command, path)
+        status, out, err = called(command, path, *asked_of(path))
         tally.same(status, 1, f"{path.name}: status")
         head = f"refused {number}: {WORDS[number]}"
         lines = "\n   ".join((head, *words))

@@ -6,12 +6,15 @@ from front import fields
 
 PROVER = {**fields.PIPE, **fields.named(fields.COEFFICIENT)}
 KEYS = {
-    "prove": PROVER | fields.named(fields.REQUEST, fields.K_FACTOR, fields.LIMIT, fields.BASE_VOLUME) | fields.RUN,
+    "prove": PROVER
+    | fields.named(fields.REQUEST, fields.K_FACTOR, fields.LIMIT, fields.BASE_VOLUME, fields.GRAVITY)
+    | fields.RUN,
     "draw": {**PROVER, **fields.FILL},
-    "ticket": fields.TICKET,
+    "ticket": fields.TICKET | fields.ASKED,
     "live": fields.LIVE,
     "panel": fields.PANEL,
     "read": {},
+    "look-up": fields.ENTRY,
     "book": {},
     "rework": {},
     "new": {},
@@ -22,16 +25,21 @@ WORDS = {
     "prove": (
         *("--record OUT", "--worksheet OUT", "--plot OUT", "--html OUT"),
         *("[prover]", "[meter]", "[[run]]", "[every_run]", *fields.METALS),
+        *("[compressibility]", "\n  table  ", "one that is typed is used as typed"),
     ),
     "draw": (
         *("--worksheet OUT", "--html OUT", "[prover]", "[[fill]]", "[every_fill]", *fields.METALS),
         *("\n  profile ", "unidirectional, 3 to 20 passes, where it is left out", "bidirectional, 6 to 20 passes"),
     ),
-    "ticket": ("--worksheet OUT", "--html OUT", "[ticket]"),
+    "ticket": ("--worksheet OUT", "--html OUT", "[ticket]", "[compressibility]", "\n  table  "),
     "live": ("--html OUT", "[live]", "nan or inf", "bits", "panel"),
     "panel": ("--html OUT", "[panel]", "nearest", "exactly", "bits"),
     "read": ("RECORD", "--hex BYTES"),
-    "new": ("KIND", "prove, draw, bidirectional, ticket, live, panel", "OUT.toml", "--force"),
+    "look-up": (
+        *("TABLE.csv TEMPERATURE GRAVITY", "TEMPERATURE      -20.0 to 200.0 °F", "GRAVITY          0.0 to 90.0 °API"),
+        *("--html OUT", "1 to 4,096 entries", "0.448 stands for 0.00000448 per psi", "half degree", "begin with #"),
+    ),
+    "new": ("KIND", "prove, draw, bidirectional, ticket, live, panel, table", "OUT.toml", "OUT.csv", "--force"),
     "lines": ("docs/LINES.md",),
     "book": (
         *("--keep FILE", "request SHIPPER NUMBER", "withdraw SHIPPER NUMBER", "take", "empty"),
@@ -55,7 +63,7 @@ def test():
         for word in (*WORDS[command], "exit status: 0 accepted; 1 refused"):
             tally.holds(text, word, command)
         tally.same("--json " in text, command != "lines", f"{command}: --json")
-        if known:
+        if " JOB.toml" in text and known:
             tally.holds(text, ", ".join(fields.HEADING), command)
         for key, field in known.items():
             lines = [line for line in text.splitlines() if line.split()[:1] == [key]]

@@ -8,7 +8,7 @@ import subprocess
 import tempfile
 from pathlib import Path
 
-from examples import COMMANDS, WORDS, named
+from examples import COMMANDS, WORDS, asked_of, named
 from harness import LAUNCHER, ROOT, Tally, called, run
 
 from front.units import shown
@@ -71,23 +71,24 @@ def whole(tally, told, name):
 
 def accepted(tally, path, command):
     """Every figure of the JSON is on the page, and the meter factor and such are where they belong."""
-    status, line, err = called(command, path, "--json")
+    words = (command, path, *asked_of(path))
+    status, line, err = called(*words, "--json")
     told = parsed(line)
     tally.same((status, err, line.count("\n")), (0, "", 1), path.name)
     tally.same((told["command"], told["outcome"], told["endakuro"]), (command, "accepted", "1.0"), path.name)
     documented(tally, told, path.name)
     whole(tally, told, path.name)
-    page = called(command, path)[1]
+    page = called(*words)[1]
     for figure in figures(told):
         tally.holds(page, shown(figure["count"], figure["decimals"]), f"{path.name}: {figure}")
-    if "job" in told:
-        tally.holds(page, told["job"]["sha256"], path.name)
+    for own in (told.get("job"), told.get("table"), told.get("look_up", {}).get("table")):
+        tally.check(not own or own["sha256"] in page, f"{path.name}: SHA-256 of {own}")
     return told
 
 
 def refused(tally, path):
     command, number = named(path)
-    status, line, err = called(command, path, "--json")
+    status, line, err = called(command, path, *asked_of(path), "--json")
     told = parsed(line)
     name, refusal = path.name, told["refusal"]
     tally.same((status, told["outcome"]), (1, "refused"), name)
@@ -97,15 +98,26 @@ def refused(tally, path):
     whole(tally, told, name)
     for detail in refusal["details"]:
         tally.holds(err, detail["words"], name)
-        at = re.match(r"(?:run|fill) (\d+): ", detail["words"])
-        tally.same(refusal["record"], int(at[1]) if at else 0, f"{name}: record")
+        record_of(tally, detail, refusal["record"], name)
         if "value" in detail and "range" in detail and "byte" not in detail["field"]:
             value, ends = detail["value"], detail["range"]
             tally.holds(detail["words"], shown(value["count"], value["decimals"]), f"{name}: value")
             tally.check(not ends["low"] <= value["count"] <= ends["high"], f"{name}: {detail} is within its range")
             tally.holds(detail["words"], shown(ends["low"], ends["decimals"]), f"{name}: range")
-    about_field = number not in (9,)
+    about_field = number not in (9, 33)
     tally.same(all("field" in detail for detail in refusal["details"]), about_field, f"{name}: fields")
+
+
+def record_of(tally, detail, record, name):
+    """The record is the run or fill of the words; of a look-up it is the table's entry, whose line they have."""
+    at = re.match(r"(?:run|fill) (\d+): ", detail["words"])
+    of_table = re.search(r"\bline (\d+): ", detail["words"])
+    if of_table:
+        tally.same((detail["line"], record > 0), (int(of_table[1]), True), f"{name}: line")
+    else:
+        tally.same(("line" in detail, record), (False, int(at[1]) if at else 0), f"{name}: record")
+    run = re.match(r"run (\d+), (?:prover|meter) F: ", detail["words"])
+    tally.same(detail.get("run"), int(run[1]) if run else None, f"{name}: run")
 
 
 def values(tally):
@@ -148,8 +160,9 @@ def bad(tally, folder):
 
 def reworked(tally, folder):
     """A line a job, as its own command prints it, and the sum of them."""
-    for path in [*EXAMPLES.glob("*.toml"), *(EXAMPLES / "refusals").glob("*.toml")]:
-        shutil.copy(path, folder)
+    for path in [*EXAMPLES.glob("*.[tc]*"), *(EXAMPLES / "refusals").glob("*.[tc]*")]:
+        if path.suffix in (".toml", ".csv"):
+            shutil.copy(path, folder)
     (folder / "pipe.toml").symlink_to("nowhere")
     status, out, _ = run("rework", folder, "--csv", folder / "out.csv", "--json")
     *lines, last = [parsed(line) for line in out.splitlines()]
@@ -216,10 +229,10 @@ def test():
     tally = Tally("JSON")
     for path in sorted(EXAMPLES.iterdir()):
         command = COMMANDS.get(path.name, "prove")
-        if path.suffix in (".toml", ".record"):
+        if path.suffix in (".toml", ".record") or command == "look-up":
             accepted(tally, path, command)
     for path in sorted((EXAMPLES / "refusals").iterdir()):
-        if path.suffix in (".toml", ".record"):
+        if path.suffix in (".toml", ".record", ".csv"):
             refused(tally, path)
     for part in (values, booked, begun):
         part(tally)

@@ -1,5 +1,6 @@
 """./endakuro new, lines and --version."""
 
+import re
 import subprocess
 import tempfile
 from hashlib import sha256
@@ -9,7 +10,7 @@ from examples import NAMED
 from harness import LAUNCHER, ROOT, Tally, called, run
 from helping import KEYS
 
-from front import build, version
+from front import build, fields, version
 
 
 def job_files(tally, folder):
@@ -38,6 +39,32 @@ def job_files(tally, folder):
     tally.same(run("new", "proof")[0], 2, "no such kind")
 
 
+def table(tally, folder):
+    """A new table has the one entry that 002 prints, runs as it is, and serves the new jobs where they look F up."""
+    path = Path(folder) / "table.csv"
+    status, text, err = called("new", "table")
+    tally.same((status, err, called("new", "table", path)[0]), (0, "", 0), "new table")
+    tally.same(path.read_text(), text, "new table onto a file")
+    entries = [line for line in text.splitlines() if not line.startswith("#")]
+    tally.same(entries, ["temperature,gravity,F", "100.0,20.0,0.448"], "new table: its entries")
+    for field in fields.ENTRY.values():
+        tally.holds(text, field.range, "new table")
+    tally.holds(called("look-up", path, "100.0", "19.9")[1], "0.00000448 per psi", "the new table runs")
+    status, out, err = called("new", "table", path)
+    tally.same((status, out, err), (2, "", f"{path}: OUT.csv: is there already: --force writes over it\n"), "once more")
+    for kind in ("prove", "ticket"):
+        text = called("new", kind)[1]
+        start = text.index("# [compressibility]")
+        note = "\n".join(line.removeprefix("# ") for line in text[start:].split("\n\n")[0].splitlines())
+        rest = "".join(line for line in text.splitlines(True) if "compressibility = " not in line)
+        job = Path(folder) / "looks-up.toml"
+        job.write_text(f"{rest}\n{note.replace('63.7', '19.9')}\n")
+        status, _, err = called(kind, job)
+        tally.check(status == 1 and "refused 33: no such pair\n" in err, f"new {kind} that looks F up: {err}")
+        job.write_text(re.sub(r"(temperature = )\d+\.\d", r"\g<1>100.0", job.read_text()))
+        tally.same((called(kind, job)[0], called(kind, job)[2]), (0, ""), f"new {kind} that looks F up")
+
+
 def line_program(tally):
     given = (ROOT / "examples" / "morning.txt").read_text()
     status, out, err = run("lines", given=given)
@@ -63,6 +90,7 @@ def test():
     tally = Tally("new files, lines, version")
     with tempfile.TemporaryDirectory() as folder:
         job_files(tally, folder)
+        table(tally, folder)
     line_program(tally)
     versions(tally)
     return tally

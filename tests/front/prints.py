@@ -9,6 +9,7 @@ from pathlib import Path
 import debian
 import jobtexts
 from harness import ROOT, Tally, called
+from lookupjobs import widest_look_up
 from reports import widest
 
 EXAMPLES = ROOT / "examples"
@@ -45,8 +46,9 @@ def figures_of(text):
 
 def jobs(folder):
     """Jobs of each kind: plain, refused, the widest, the longest."""
-    for name in ("figure-5", "figure-6", "water-draw", "bidirectional-draw", *SHORT):
+    for name in ("figure-5", "figure-6", "water-draw", "bidirectional-draw", *SHORT, "looked-up", "ticket-looked-up"):
         yield EXAMPLES / f"{name}.toml"
+    yield widest_look_up(folder)
     for name in ("prove-09-runs-drift", "draw-09-passes-drift", "bidirectional-09-trips-drift"):
         yield EXAMPLES / "refusals" / f"{name}.toml"
     by_chance = [jobtexts.proving_text(max(jobtexts.days(60, 21), key=lambda job: len(job.runs)))]
@@ -60,7 +62,8 @@ def jobs(folder):
 
 
 def printed(tally, number, path, folder):
-    kind = path.stem if path.stem in SHORT else "draw" if "[[fill]]" in path.read_text() else "prove"
+    first = path.stem.split("-")[0]
+    kind = first if first in SHORT else "draw" if "[[fill]]" in path.read_text() else "prove"
     out = folder / "page.html"
     status, text, _ = called(kind, path, "--html", out, "--force")
     page = out.read_text()
@@ -94,6 +97,18 @@ def refused(tally, folder):
         tally.holds(on_paper, words, "a refusal without figures")
 
 
+def looked_up(tally, folder):
+    """The page of a look-up, found and refused."""
+    out, table = folder / "entry.html", EXAMPLES / "table-for-trying.csv"
+    refusal = "NOT ACCEPTED: refused 33: no such pair"
+    for asked, expected, words in (("64.6", 0, "0.00000829 per psi"), ("20.0", 1, refusal)):
+        status, text, _ = called("look-up", table, asked, "63.7", "--html", out, "--force")
+        sheets, _, on_paper = pdf_of(out.read_text(), "Letter", folder)
+        tally.same((status, sheets), (expected, 1), "a look-up: sheets")
+        tally.holds(on_paper, words, "a look-up")
+        tally.same(dict(figures_of(text) - figures_of(on_paper)), {}, "a look-up: figures that are missing")
+
+
 def read_back(tally, folder):
     """A record's page, and that of one that is no report."""
     out = folder / "record.html"
@@ -114,6 +129,6 @@ def test():
     with tempfile.TemporaryDirectory() as folder:
         for number, path in enumerate(jobs(Path(folder))):
             printed(tally, number, path, Path(folder))
-        refused(tally, Path(folder))
-        read_back(tally, Path(folder))
+        for part in (refused, read_back, looked_up):
+            part(tally, Path(folder))
     return tally

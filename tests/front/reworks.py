@@ -2,6 +2,7 @@
 
 import csv
 import io
+import re
 import shutil
 import signal
 import subprocess
@@ -19,6 +20,8 @@ from front.results import COLUMNS
 
 MANY = 3000
 EXAMPLES = ROOT / "examples"
+# The files that a job names, in the order in which they are read.
+NAMED_FILE = re.compile(r'^(?:file|table) = "(.+?)"', re.MULTILINE)
 HEADED = """\
 [heading]
 tank = "T-4"
@@ -35,8 +38,9 @@ def rows_of(path):
 
 def mixed(tally, folder):
     """Jobs of every kind, refused ones and a bad file among them."""
-    for path in [*EXAMPLES.glob("*.toml"), *EXAMPLES.glob("*.csv"), *(EXAMPLES / "refusals").glob("*.toml")]:
-        shutil.copy(path, folder)
+    for path in [*EXAMPLES.glob("*"), *(EXAMPLES / "refusals").glob("*")]:
+        if path.suffix in (".toml", ".csv"):
+            shutil.copy(path, folder)
     (folder / "bad.toml").write_text("run = 3\n")
     (folder / "=cmd.toml").write_text("run = 3\n")
     files = sorted(folder.glob("*.toml"))
@@ -53,8 +57,8 @@ def mixed(tally, folder):
             command, number = named(path)
             tally.same(found, (command, "refused", number), row["file"])
             tally.holds(out, f"{folder / row['file']}: {row['words']}\n", "a line a refusal")
-        runs = path.with_suffix(".csv")
-        octets = path.read_bytes() + (runs.read_bytes() if runs.exists() else b"")
+        named_by_it = [folder / name for name in NAMED_FILE.findall(path.read_text())]
+        octets = b"".join(each.read_bytes() for each in (path, *named_by_it))
         tally.same(row["SHA-256"], sha256(octets).hexdigest(), f"{path.name}: digest")
         tally.same(row["version"], version.NAME, f"{path.name}: version")
     counts = {kind: sum(row["outcome"] == kind for row in rows) for kind in ("accepted", "refused", "bad file")}

@@ -13,7 +13,7 @@ KNOWN = {
     ("book_faults", "of_figures"): "what reserves add up to that break the rule, for a refusal's words",
     ("build", ""): "paths",
     ("build", "is_current"): "paths",
-    ("entry_files", "tables"): "paths",
+    ("csv_lines", "named"): "paths",
     ("fields", ""): "what a place of 1, 2 or 4 bytes holds",
     ("page", "grid"): "widths of columns",
     ("rework", "rework"): "how many workers",

@@ -12,12 +12,12 @@ from harness import ROOT, Tally, called
 
 EXAMPLES = ROOT / "examples"
 JOBS = {
-    "prove": ("second-five.toml", "figure-6.toml", "refusals/prove-09-runs-drift.toml"),
+    "prove": ("second-five.toml", "figure-6.toml", "looked-up.toml", "refusals/prove-09-runs-drift.toml"),
     "draw": (
         "water-draw.toml", "refusals/draw-09-passes-drift.toml",
         "bidirectional-draw.toml", "refusals/bidirectional-09-trips-drift.toml",
     ),
-    "ticket": ("ticket.toml", "ticket-propane.toml"),
+    "ticket": ("ticket.toml", "ticket-propane.toml", "ticket-looked-up.toml"),
 }  # fmt: skip
 OTHER = EXAMPLES / "figure-5.toml"
 DAMAGED = 12
@@ -47,6 +47,8 @@ def one(tally, kind, example):
     with tempfile.TemporaryDirectory() as first, tempfile.TemporaryDirectory() as second:
         job, moved = Path(first) / "job.toml", Path(second) / "a job file of another name.toml"
         shutil.copy(EXAMPLES / example, job)
+        for place in (first, second):
+            shutil.copy(EXAMPLES / "table-for-trying.csv", place)
         names = made(kind, job, Path(first))
         shutil.move(job, moved)
         for name in names:

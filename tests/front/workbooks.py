@@ -2,6 +2,7 @@
 of its unit; without the library the message says how to get it."""
 
 import re
+import shutil
 import tempfile
 import zipfile
 from pathlib import Path
@@ -11,7 +12,7 @@ import jobtexts
 import office
 from harness import ROOT, Tally, called
 from reports import widest
-from worksheets import MAKERS, formulas
+from worksheets import MAKERS, formulas, looked_up
 
 from front import jobs, workbook
 from front import worked as works
@@ -23,7 +24,8 @@ DAYS, DRAWS, PAIRED, TICKETS = 30, 6, 6, 8
 EXAMPLES = ROOT / "examples"
 PLACES = {"": 0, "1": 0, "0.1": 1, "0.01": 2, "0.001": 3, "0.0001": 4, "0.000001": 6, "0.0000001": 7, "0.00000001": 8}
 # Rows without a unit.
-PLAIN = {"out_pass", "back_pass", "any", "first_trip", "first", "told_first", "agree"}
+PLAIN = {"out_pass", "back_pass", "any", "first_trip", "first", "told_first", "agree", "table"}
+PLAIN |= {"prover_compressibility_line", "meter_compressibility_line", "compressibility_line"}
 
 
 def texts():
@@ -32,12 +34,14 @@ def texts():
     yield from map(jobtexts.paired_text, jobtexts.paired_draws(PAIRED, 34))
     yield from map(jobtexts.ticket_text, jobtexts.tickets(TICKETS, 33))
     yield from widest()
+    yield from looked_up()
     for name in ("prove-09-runs-drift", "bidirectional-09-trips-drift"):
         yield (EXAMPLES / "refusals" / f"{name}.toml").read_text()
 
 
 def made(folder, program):
     books = []
+    shutil.copy(EXAMPLES / "table-for-trying.csv", folder)
     for number, text in enumerate(texts()):
         path = Path(folder) / f"book{number}.toml"
         path.write_text(text)

@@ -1,12 +1,13 @@
 """Worksheets opened with LibreOffice: every computed cell is the line program's figure."""
 
+import shutil
 import tempfile
 from pathlib import Path
 
 import cells
 import jobtexts
 import office
-from harness import Tally
+from harness import ROOT, Tally
 
 from front import draw_worksheet, jobs, ticket_worksheet
 from front import worked as works
@@ -42,6 +43,15 @@ def texts():
     yield from map(jobtexts.draw_text, draws)
     yield from map(jobtexts.paired_text, jobtexts.paired_draws(PAIRED, 6) + jobtexts.widest_draws(6))
     yield from map(jobtexts.ticket_text, jobtexts.tickets(TICKETS, 5))
+    yield from looked_up()
+
+
+def looked_up():
+    """Jobs that look F up in the table for trying, one of them in some runs alone."""
+    proving, ticket = ((ROOT / "examples" / name).read_text() for name in ("looked-up.toml", "ticket-looked-up.toml"))
+    typed = "prover_temperature = 63.5\nmeter_compressibility = 0.00000800\n"
+    assert "prover_temperature = 63.5\n" in proving
+    return proving, ticket, proving.replace("prover_temperature = 63.5\n", typed)
 
 
 def formulas(sheet):
@@ -55,6 +65,7 @@ def formulas(sheet):
 def made(folder, program):
     """Each job's sheet, written beside it, with what its cells must show."""
     sheets = []
+    shutil.copy(ROOT / "examples" / "table-for-trying.csv", folder)
     for number, text in enumerate(texts()):
         path = Path(folder) / f"{number}.toml"
         path.write_text(text)
@@ -78,7 +89,8 @@ def test():
             tally.same(sheet.found(rows, key, at), str(told[key, at]), f"{name}: {key}, column {at + 1}")
     counts = {kind: sum(name.startswith(kind) for name, *_ in sheets) for kind in MAKERS}
     tally.check(counts["prove"] >= 200, f"only {counts['prove']} proving jobs have a worksheet")
-    for key, least in (BOILING | {"first_trip": PAIRED}).items():
+    least_of = {"first_trip": PAIRED, "prover_compressibility_line": 2, "compressibility_line": 1}
+    for key, least in (BOILING | least_of).items():
         having = sum(key in sheet.places for _, _, sheet, _ in sheets)
         tally.check(having >= least, f"only {having} worksheets have a {key}")
     told = ", ".join(f"{count} {kind}" for kind, count in counts.items())

@@ -16,6 +16,7 @@ use Rattle.draw.specs.declared.FillFigures.{FillFigures}
 use Rattle.draw.specs.declared.BaseVolume.{BaseVolume}
 use Rattle.ticket.specs.declared.Volumes.{Volumes}
 use Rattle.live.specs.Live.{Values}
+use Rattle.lookup.specs.declared.Entry.{Entry}
 use Rattle.book.specs.Answers.{Handed, Shared}
 use Rattle.api.specs.declared.corrections.EndakuroFactor.{EndakuroFactor}
 use Rattle.api.specs.declared.quotients.EndakuroQuotient.{EndakuroQuotient}
@@ -28,6 +29,7 @@ use Rattle.api.specs.declared.water.EndakuroDraw.{EndakuroDraw}
 use Rattle.api.specs.declared.tickets.EndakuroVolumes.{EndakuroVolumes}
 use Rattle.api.specs.declared.readings.EndakuroLive.{EndakuroLive}
 use Rattle.api.specs.declared.panel.EndakuroPanel.{EndakuroPanel}
+use Rattle.api.specs.declared.lookups.EndakuroEntry.{EndakuroEntry}
 use Rattle.api.specs.declared.books.EndakuroDone.{EndakuroDone}
 use Rattle.api.specs.declared.books.EndakuroTaken.{EndakuroTaken}
 use Rattle.api.specs.declared.books.EndakuroCommons.{EndakuroCommons}
@@ -175,6 +177,16 @@ panelWith number at x = record { number = number; at = at; shown = x }
 
 unfoldable pub flatPanel : Told Float → EndakuroPanel
 flatPanel t = panelWith (numberIn t) (recordIn t) (valuesIn nothingShown t)
+
+-- the record found in a table
+abbrev pub noEntry : Entry
+noEntry = record { temperature = pos 0; gravity = 0; compressibility = 0 }
+
+abbrev pub entryWith : ℕ → ℕ → Entry → EndakuroEntry
+entryWith number at e = record { number = number; at = at; temperature = e .temperature; gravity = e .gravity; compressibility = e .compressibility }
+
+unfoldable pub flatEntry : Told Entry → EndakuroEntry
+flatEntry t = entryWith (numberIn t) (recordIn t) (valuesIn noEntry t)
 
 -- a request or a withdrawal: nothing but the number and the record
 unfoldable pub flatDone : Told Unit → EndakuroDone

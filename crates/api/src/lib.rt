@@ -5,6 +5,7 @@
 pub mod books;
 pub mod corrections;
 pub mod jobs;
+pub mod lookups;
 pub mod panel;
 pub mod quotients;
 pub mod readings;

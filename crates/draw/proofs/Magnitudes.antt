@@ -11,7 +11,7 @@ use mir.Syntax.{w16}
 use mir.Val.{toZ, ofZ}
 use Rattle.ranges.specs.Table.{temperatureOk, coefficientOk, pressureOk, compressibilityOk}
 use Rattle.ranges.proofs.Laws.{within-high}
-use Rattle.ranges.proofs.Counted.{passed-on}
+use Rattle.ranges.proofs.Counted.{warm, passed-on}
 use Rattle.exact.specs.Rounding.{rounded}
 use Rattle.exact.specs.Quotient.{quotientOf, valueOrZero}
 use Rattle.exact.proofs.Rounding.{at-most, at-least}
@@ -27,7 +27,7 @@ use Rattle.factors.specs.declared.Metal.the-variants.{Certified}
 use Rattle.factors.specs.declared.Pipe.{Pipe}
 use Rattle.factors.specs.declared.Factor.{Factor}
 use Rattle.factors.specs.declared.Places.the-variants.{Six}
-use Rattle.factors.proofs.Steel.{warm, parts, Loads, loads}
+use Rattle.factors.proofs.Steel.{parts, Loads, loads}
 use Rattle.factors.proofs.Squeezed.{all-fit}
 use Rattle.factors.proofs.Values.{cts-small, cts-value, cps-small, cpl-small}
 use Rattle.draw.specs.Fill.{fillOk}

@@ -14,6 +14,8 @@ use lines::answers::say_ok;
 use live::Live;
 use live::Reading;
 use live::panel::Panel;
+use lookup::Entry;
+use lookup::LookUp;
 use report::Answer;
 use report::Factors;
 use report::Report;
@@ -286,6 +288,25 @@ fn say_read(bytes: &[u8], out: &mut [u8]) -> usize {
     }
 }
 
+fn say_entry(entry: Entry, out: &mut [u8]) -> usize {
+    let at = answers::say_done(out);
+    let next = answers::add_signed(entry.temperature, out, at);
+    add_numbers(
+        &[entry.gravity as u64, entry.compressibility as u64],
+        out,
+        next,
+    )
+}
+
+fn look_up(line: &[u8], table: &[u8], out: &mut [u8]) -> usize {
+    let gravity = operands::u16_at(line, 2);
+    let found = lookup::look_up(operands::i16_at(line, 1), gravity, table);
+    match found {
+        LookUp::Found(entry) => say_entry(entry, out),
+        LookUp::Refused(refusal) => refuse(refusal, out),
+    }
+}
+
 // The entries whose last operand is lent records, or one.
 fn answer_records(entry: usize, line: &[u8], records: &[u8], out: &mut [u8]) -> usize {
     match entry {
@@ -296,7 +317,8 @@ fn answer_records(entry: usize, line: &[u8], records: &[u8], out: &mut [u8]) -> 
         14 => say_fill(line, records, out),
         15 => list_volumes(Profile::Unidirectional, line, records, out),
         16 => say_draw(Profile::Bidirectional, line, records, out),
-        _ => list_volumes(Profile::Bidirectional, line, records, out),
+        17 => list_volumes(Profile::Bidirectional, line, records, out),
+        _ => look_up(line, records, out),
     }
 }
 
@@ -335,14 +357,14 @@ fn answer_spread(line: &[u8], out: &mut [u8]) -> usize {
 
 fn answer_numbers(entry: usize, line: &[u8], out: &mut [u8]) -> usize {
     match entry {
-        18 => answer_cts(line, out),
-        19 => answer_cps(line, out),
-        20 => answer_cpl(line, out),
-        21 => answer_ticket(line, out),
-        22 => answer_live(line, out),
-        23 => answer_spread(line, out),
-        24 => answer_panel_temperature(line, out),
-        25 => answer_panel_pressure(line, out),
+        19 => answer_cts(line, out),
+        20 => answer_cps(line, out),
+        21 => answer_cpl(line, out),
+        22 => answer_ticket(line, out),
+        23 => answer_live(line, out),
+        24 => answer_spread(line, out),
+        25 => answer_panel_temperature(line, out),
+        26 => answer_panel_pressure(line, out),
         _ => answers::say_bad(out),
     }
 }
@@ -358,7 +380,7 @@ pub(crate) fn answer(
     match entry {
         8 => answer_prove(line, first, second, out),
         9 => answer_write(line, first, out),
-        10..=17 => answer_lent(entry, line, first, out),
+        10..=18 => answer_lent(entry, line, first, out),
         _ => answer_numbers(entry, line, out),
     }
 }

@@ -1,17 +1,16 @@
 -- The steel factors: CTS without a number below zero, the temperature counted from -100.0 °F; and the magnitudes of CPS.
-use mathlib.Core.Path.{_≡_, refl, sym, ap, _∙_}
-use mathlib.Core.Bool.{true, _&&_, and-true}
+use mathlib.Core.Path.{_≡_, sym, ap, _∙_}
+use mathlib.Core.Bool.{true, _&&_}
 use mathlib.Core.Logic.{by-cases}
 use Prim.Native.Nat.{ℕ, zero, suc, _+_, _*_, _-_, _<_, _≤_}
 use native.Mathlib.Nat.{add-mul, mul-le-mul}
 use native.Mathlib.Decide.{decLt}
 use native.Mathlib.Omega.{arith}
-use borrow.Author.Tests.{leb-true, lt-ltb, le-ltb}
-use lib.Dec.{leb}
+use borrow.Author.Tests.{lt-ltb, le-ltb}
 use lib.IntN.{ℤ, pos, negsuc, negℤ, natAbs, subℕ, _+ℤ_, _-ℤ_, _*ℤ_, +ℤ-negℤ-cancel, +ℤ-assoc}
-use Rattle.ranges.specs.Table.{temperatureOk, pressureOk, diameterOk, wallOk, modulusOk}
+use Rattle.ranges.specs.Table.{pressureOk, diameterOk, wallOk, modulusOk}
 use Rattle.ranges.proofs.Laws.{both-first, both-second, within-low, within-high}
-use Rattle.ranges.proofs.Counted.{below}
+use Rattle.ranges.proofs.Counted.{Warm}
 use Rattle.factors.specs.Prover.{pipeOk}
 use Rattle.factors.specs.declared.Pipe.{Pipe}
 
@@ -19,18 +18,6 @@ use Rattle.factors.specs.declared.Pipe.{Pipe}
 minus : (a m : ℕ) → m ≤ a → natAbs (pos a +ℤ negℤ (pos m)) ≡ a - m
 minus a zero h = omega arith
 minus a (suc m) h = rw (le-ltb a (suc m) h)
-
--- a temperature in range, in 0.1 °F above -100.0 °F
-pub record Warm (t : ℤ) : Type 0 where
-  pub above : ℕ
-  pub is : t +ℤ pos 1000 ≡ pos above
-  pub low : 800 ≤ above
-  pub high : above ≤ 3000
-
-pub warm : (t : ℤ) → temperatureOk t ≡ true → Warm t
-unfolding temperatureOk
-warm (pos n) ok = let h : n ≤ 2000 = leb-true n 2000 ok in record { above = n + 1000; is = refl; low = omega arith; high = omega arith }
-warm (negsuc k) ok = let h : k ≤ 199 = leb-true k 199 (sym (and-true (leb k 199)) ∙ ok) in record { above = 1000 - suc k; is = below 1000 (suc k) (omega arith); low = omega arith; high = omega arith }
 
 -- T - 60, from the temperature counted so
 from-sixty : {t : ℤ} (w : Warm t) → t -ℤ pos 600 ≡ subℕ (w .above) 1600

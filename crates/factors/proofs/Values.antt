@@ -12,6 +12,7 @@ use Rattle.refusals.specs.Told.{done}
 use Rattle.refusals.proofs.Laws.{judged-fine, demand-holds, orElse-next, done-one, refusal-one, refused-number, refused-record}
 use Rattle.ranges.specs.Table.{temperatureOk, coefficientOk, pressureOk}
 use Rattle.ranges.proofs.Laws.{within-high}
+use Rattle.ranges.proofs.Counted.{warm}
 use Rattle.exact.specs.Rounding.{rounded}
 use Rattle.exact.proofs.Rounding.{at-most}
 use Rattle.factors.specs.Metal.{coefficientOf, metalOk}
@@ -29,7 +30,7 @@ use Rattle.factors.specs.declared.Factor.{Factor}
 use Rattle.factors.specs.declared.Factor.the-variants.{Value, Refused}
 use Rattle.factors.proofs.Laws.{rounded-at-most-two}
 use Rattle.factors.proofs.Squeezed.{squeezed-little}
-use Rattle.factors.proofs.Steel.{warm, parts, Loads, loads}
+use Rattle.factors.proofs.Steel.{parts, Loads, loads}
 
 pub told-value : (f : Factor) {v : ℕ} → told f ≡ done v → valueOrZero f ≡ v
 told-value (Value x) is = done-one is

@@ -14,7 +14,7 @@ use lib.IntN.{ℤ}
 use lib.Ieee.{Float}
 use lib.ListN.{length}
 use Rattle.refusals.specs.Told.{Told, refused, leftBy}
-use Rattle.ranges.specs.Table.{temperatureOk, pressureOk, kFactorOk, limitOk, volumeOk, runFactorOk, fillsOk}
+use Rattle.ranges.specs.Table.{temperatureOk, pressureOk, kFactorOk, limitOk, volumeOk, runFactorOk, fillsOk, entriesOk}
 use Rattle.octets.specs.Records.{recordsIn, areRecords}
 use Rattle.ranges.specs.Within.{within}
 use Rattle.ranges.proofs.Laws.{within-true}
@@ -49,6 +49,11 @@ use Rattle.ticket.specs.declared.Ticket.{Ticket}
 use Rattle.live.specs.Live.{wholeOf, psiOk, liveOf}
 use Rattle.live.specs.Panel.{panelTemperatureOf, panelPressureOf}
 use Rattle.live.proofs.Answers.{singleFault, live-judged}
+use Rattle.lookup.specs.HalfDegree.{halfDegree, halfDegreeSigned}
+use Rattle.lookup.specs.Table.{recordOk as entryIsOk, orderOk}
+use Rattle.lookup.specs.Pair.{askedOk, hasPair}
+use Rattle.lookup.specs.Answers.{entryFault as entryFaultOfTable, tableFault, recordFound, foundIn, lookUpOf}
+use Rattle.octets.specs.FirstToLast.{firstPlace}
 use Rattle.octets.specs.Lists.{isOneOf}
 use Rattle.book.specs.Figures.{shippers, ceiling, waitingOf, has, held}
 use Rattle.book.specs.Rules.{keepRules}
@@ -57,7 +62,7 @@ use Rattle.book.specs.Calls.{callFault, hasRoom, entryFault, requestFault, requ
 use Rattle.book.specs.declared.Book.{Book}
 use Rattle.book.specs.declared.Figures.{Figures as BookFigures}
 use lib.Ieee.Scale.{finite}
-use Rattle.promises.specs.Numbers.{settingNumbers, liquidNumbers, jobNumbers, provingNumbers, recordNumbers, runNumbers, drawNumbers, passesNumbers, fillNumbers, ticketNumbers, liveNumbers, panelNumbers, requestNumbers, withdrawalNumbers, takeNumbers, agreementNumbers, commonsNumbers, readNumbers, writeNumbers}
+use Rattle.promises.specs.Numbers.{settingNumbers, liquidNumbers, jobNumbers, provingNumbers, recordNumbers, runNumbers, drawNumbers, passesNumbers, fillNumbers, ticketNumbers, liveNumbers, panelNumbers, lookUpNumbers, requestNumbers, withdrawalNumbers, takeNumbers, agreementNumbers, commonsNumbers, readNumbers, writeNumbers}
 use Rattle.promises.specs.Ending.{markedOf, recordOk, refusalOk, Ends}
 use Rattle.promises.proofs.Endings.{Finds, by-demand, by-demandAt, by-orElse, by-scan, by-unless, by-judged, by-nine, as-told}
 
@@ -208,6 +213,22 @@ panel-temperature-ends tenths = by-judged _ (by-demand (temperatureOk tenths) 13
 pub panel-pressure-ends : (psi : ℕ) → Ends panelNumbers 0 0 (panelPressureOf psi)
 unfolding panelPressureOf isOneOf markedOf recordOk refusalOk
 panel-pressure-ends psi = by-judged _ (by-demand (pressureOk psi) 13 refl)
+
+-- ---- a look-up: 1, the records with 32, 13, 33
+
+place-ends : (s : List ℕ) (o : Option ℕ) → Ends lookUpNumbers 1 (recordsIn 8 s) (recordFound s o)
+unfolding isOneOf markedOf recordOk refusalOk
+place-ends s none = record { gives = refl }
+place-ends s (some i) = record { gives = tt }
+
+pub look-up-ends : (t : ℤ) (g : ℕ) (s : List ℕ) → Ends lookUpNumbers 1 (recordsIn 8 s) (lookUpOf t g s)
+unfolding lookUpOf foundIn tableFault entryFaultOfTable isOneOf markedOf recordOk refusalOk
+look-up-ends t g s =
+    let of = of-records (recordsIn 8 s) in
+    by-unless
+    (by-orElse (by-orElse (by-demand (areRecords entriesOk 8 (length s)) 1 refl) (by-scan (entryFaultOfTable s) (recordsIn 8 s) 0 (λ i _ h. by-demandAt (entryIsOk s i && orderOk s i) 32 (i + 1) (of i (omega arith)))))
+    (by-demand (askedOk t g) 13 refl))
+    (place-ends s (firstPlace (hasPair s (halfDegreeSigned t) (halfDegree g)) (recordsIn 8 s) 0))
 
 -- ---- 'A book call, lowest number first: a request 20 to 25; a withdrawal 20, 21, 22, 26; a take 20, 27.'
 

@@ -16,7 +16,7 @@ use Rattle.draw.specs.Answers.{countOf, heldFor}
 use Rattle.draw.specs.declared.Profile.{Profile}
 use Rattle.draw.specs.declared.Profile.the-variants.{Unidirectional, Bidirectional}
 use Rattle.api.specs.Given.{pipeBy, liquidBy, proverBy, factorsBy, ticketBy}
-use Rattle.api.specs.Flat.{partOf, flatPasses, noReport, noFigures, noFill, noBase, noVolumes, noReading, nothingShown, noHandout, noCommons}
+use Rattle.api.specs.Flat.{partOf, flatPasses, noReport, noFigures, noFill, noBase, noVolumes, noReading, nothingShown, noEntry, noHandout, noCommons}
 use Rattle.api.specs.declared.jobs.EndakuroPart.{EndakuroPart}
 use Rattle.api.specs.declared.quotients.EndakuroQuotient.{EndakuroQuotient}
 use Rattle.api.specs.declared.water.EndakuroPasses.{EndakuroPasses}
@@ -24,8 +24,8 @@ use Rattle.promises.specs.Numbers.{passesNumbers}
 use Rattle.promises.specs.Arguments.{first, second, third, fourth, fifth, sixth}
 use Rattle.promises.specs.FlatEnding.{FlatEnds, byKind, passesIn}
 use Rattle.promises.specs.EntriesC.{EntriesC}
-use Rattle.promises.proofs.FlatEndings.{flat-ends, flat-leaves, done-at-zero, refused-at-other, factor-back, report-back, run-back, fill-back, passes-back, volumes-back, draw-back, ticket-back, live-back, panel-back, change-back, take-back, commons-back, quotient-back, no-quotient}
-use Rattle.promises.proofs.Demand1.{cts-ends, cps-ends, cpl-ends, shown-ends, job-ends, write-ends, read-ends, fill-ends, volumes-end, draw-ends, ticket-ends, live-ends, panel-temperature-ends, panel-pressure-ends, request-ends, withdrawal-ends, take-ends, setting-ends, commons-end}
+use Rattle.promises.proofs.FlatEndings.{flat-ends, flat-leaves, done-at-zero, refused-at-other, factor-back, report-back, run-back, fill-back, passes-back, volumes-back, draw-back, ticket-back, live-back, panel-back, entry-back, change-back, take-back, commons-back, quotient-back, no-quotient}
+use Rattle.promises.proofs.Demand1.{cts-ends, cps-ends, cpl-ends, shown-ends, job-ends, write-ends, read-ends, fill-ends, volumes-end, draw-ends, ticket-ends, live-ends, panel-temperature-ends, panel-pressure-ends, look-up-ends, request-ends, withdrawal-ends, take-ends, setting-ends, commons-end}
 use Rattle.promises.proofs.Demand1.{left-as-found, request-leaves-book, withdrawal-leaves-book, take-leaves-book, setting-leaves-book}
 
 -- start and length in the lent records are the accepted runs
@@ -103,6 +103,7 @@ entries-c =
       live-entry = λ κ a r x p. flat-ends refl noReading live-back p (live-ends (first a) (second a));
       panel-temperature-entry = λ κ a r x p. flat-ends refl nothingShown panel-back p (panel-temperature-ends (first a));
       panel-pressure-entry = λ κ a r x p. flat-ends refl nothingShown panel-back p (panel-pressure-ends (first a));
+      look-up-entry = λ κ a r x p. flat-ends refl noEntry entry-back p (look-up-ends (first a) (second a) (third a .now));
       request-entry = λ shipper number found left r p. flat-ends refl tt change-back (p .0) (request-ends found shipper number);
       request-leaves = λ shipper number found left r p. flat-leaves (flat-ends refl tt change-back (p .0) (request-ends found shipper number)) (λ n at is. p .1 ∙ request-leaves-book found shipper number is);
       withdraw-entry = λ shipper number found left r p. flat-ends refl tt change-back (p .0) (withdrawal-ends found shipper number);

@@ -13,6 +13,7 @@ use Rattle.refusals.specs.Told.{done, demand, demandAt, orElse, judged}
 use Rattle.refusals.proofs.Laws.{demand-was, demandAt-was, orElse-fine-first, orElse-fine-next, judged-was, judged-done, unless-done}
 use Rattle.ranges.specs.Table.{temperatureOk, pressureOk, coefficientOk, kFactorOk, volumeOk, runFactorOk}
 use Rattle.ranges.proofs.Laws.{within-low, within-high}
+use Rattle.ranges.proofs.Counted.{warm}
 use Rattle.exact.specs.Rounding.{roundedDiv, _over_, rounded}
 use Rattle.exact.proofs.Rounding.{nearest, nearest-one, at-least}
 use Rattle.octets.specs.Records.{recordsIn}
@@ -30,7 +31,7 @@ use Rattle.factors.proofs.Squeezed.{squeezed-little, pressure-fits}
 use Rattle.factors.specs.declared.Metal.{Metal}
 use Rattle.factors.specs.declared.Pipe.{Pipe}
 use Rattle.factors.specs.declared.Prover.{Prover}
-use Rattle.factors.proofs.Steel.{warm, parts, Loads, loads}
+use Rattle.factors.proofs.Steel.{parts, Loads, loads}
 use Rattle.group.specs.Mean.{meanOf}
 use Rattle.exact.specs.Words.{sumOf}
 use Rattle.run.specs.Record.{runSize, runAt, runOk}

@@ -37,7 +37,7 @@ use Rattle.promises.proofs.Reasons.{At, here, InTurn, sooner, later, Of
 use Rattle.promises.proofs.Meeting.{no-five, first-five-meet, no-three, first-three-meet}
 
 -- 1: 'lent records not whole, or too few or many'
-lent-judged : (countOk : ℕ → Bool) (size : ℕ) (s : List ℕ) → Exactly (Lent countOk size s) (At 1 0 (Lent countOk size s → ⊥)) (demand (areRecords countOk size (length s)) 1)
+pub lent-judged : (countOk : ℕ → Bool) (size : ℕ) (s : List ℕ) → Exactly (Lent countOk size s) (At 1 0 (Lent countOk size s → ⊥)) (demand (areRecords countOk size (length s)) 1)
 unfolding areRecords recordsIn
 lent-judged countOk size s =
     let whole = eqb (length s % size) 0 in

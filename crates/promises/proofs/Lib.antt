@@ -15,6 +15,8 @@ pub mod ZeroGage
 pub mod Formulas
 pub mod EntryFormulas
 pub mod Panel
+pub mod LookUp
+pub mod PrintedEntry
 pub mod Jobs
 pub mod RoundTrips
 pub mod OneOutcome

@@ -9,6 +9,7 @@ use Rattle.report.proofs.Laws.{told-one as report-one}
 use Rattle.draw.proofs.Outcome.{fill-one, count-one, draw-one}
 use Rattle.ticket.proofs.Laws.{told-one as ticket-one}
 use Rattle.live.proofs.Answers.{told-one as live-one, panel-one}
+use Rattle.lookup.proofs.Outcome.{told-one as look-up-one}
 use Rattle.book.proofs.Outcomes.{changed-one, commons-one, handout-one}
 use Rattle.promises.specs.OneOutcome.{OneOutcome}
 
@@ -47,6 +48,8 @@ one-outcome =
       ranges-is-reading-one = (λ _ _. tt, λ _ _ _ _ _ _. same);
       ranges-is-meter-factor-one = (λ _ _. tt, λ _ _ _ _ _ _. same);
       ranges-is-sediment-one = (λ _ _. tt, λ _ _ _ _ _ _. same);
+      ranges-is-gravity-one = (λ _ _. tt, λ _ _ _ _ _ _. same);
+      ranges-are-entries-one = (λ _ _. tt, λ _ _ _ _ _ _. same);
       exact-product-one = (λ _ _. tt, λ _ _ _ _ _ _. same);
       exact-sum-one = (λ _ _. tt, λ _ _ _ _ _ _. same);
       exact-is-at-most-one = (λ _ _. tt, λ _ _ _ _ _ _. same);
@@ -96,6 +99,7 @@ one-outcome =
       live-convert-one = (λ _ _. tt, λ _ _ r q _ _ p p′. live-one r q (same p p′));
       live-show-temperature-one = (λ _ _. tt, λ _ _ r q _ _ p p′. panel-one r q (same p p′));
       live-show-pressure-one = (λ _ _. tt, λ _ _ r q _ _ p p′. panel-one r q (same p p′));
+      lookup-look-up-one = (λ _ _. tt, λ _ _ r q _ _ p p′. look-up-one r q (same p p′));
       book-empty-one = (λ _ _. tt, λ _ _ _ _ _ _. same);
       book-is-sound-one = (λ _ _. tt, λ _ _ _ _ _ _. same);
       book-request-one = (λ _ _. tt, λ _ _ r q _ _ p p′. changed-one r q (same (p .0) (p′ .0)) (same (p .1) (p′ .1)));

@@ -28,5 +28,6 @@ one-outcome-c =
       live-one = (λ _ _. tt, λ _ _ _ _ _ _. same);
       panel-temperature-one = (λ _ _. tt, λ _ _ _ _ _ _. same);
       panel-pressure-one = (λ _ _. tt, λ _ _ _ _ _ _. same);
+      look-up-one = (λ _ _. tt, λ _ _ _ _ _ _. same);
       empty-one = (λ _ _. tt, λ _ _ _ _ _ _. same);
     }

@@ -196,19 +196,24 @@ module _ {R A : Type 0} {C : ℕ → ℕ → Type 0} where
       either (done x) tells = inl (tells .accepted refl)
       either (refused number at) tells = inr (number, at, tells .because refl)
 
--- 9 for no group
-pub tells-nine : {R Group : Type 0} (o : Option ℕ) (follows : ℕ → R) → ((at : ℕ) → o ≡ some at → Group) → (o ≡ none → Group → ⊥) → Tells Group (At 9 0 (Group → ⊥)) (nineUnless o follows)
-tells-nine {R} {Group} none follows some-group no-group =
+-- what is told of a place that is found, and a number for none
+pub tells-place : {R Group : Type 0} (number : ℕ) (told : Option ℕ → Told R) (follows : ℕ → R) → told none ≡ refused number 0 → ((at : ℕ) → told (some at) ≡ done (follows at))
+    → (o : Option ℕ) → ((at : ℕ) → o ≡ some at → Group) → (o ≡ none → Group → ⊥) → Tells Group (At number 0 (Group → ⊥)) (told o)
+tells-place {R} {Group} number told follows not-found found none some-group no-group =
     record {
       gives = λ group. absurd (no-group refl group);
-      accepted = λ is. absurd (refused-not-done is);
-      refuses = elim [ here _ ↦ refl ];
-      because = λ is. moved (At 9 0 (Group → ⊥)) (refused-number is) (refused-record is) (here (no-group refl));
+      accepted = λ is. absurd (refused-not-done (sym not-found ∙ is));
+      refuses = elim [ here _ ↦ not-found ];
+      because = λ is. let same = sym not-found ∙ is in moved (At number 0 (Group → ⊥)) (refused-number same) (refused-record same) (here (no-group refl));
     }
-tells-nine {R} {Group} (some at) follows some-group no-group =
+tells-place {R} {Group} number told follows not-found found (some at) some-group no-group =
     record {
-      gives = λ _. (follows at, refl);
+      gives = λ _. (follows at, found at);
       accepted = λ _. some-group at refl;
-      refuses = elim [ here none-meet ↦ absurd (none-meet (some-group at refl)) ];
-      because = λ is. absurd (refused-not-done (sym is));
+      refuses = elim [ here none-there ↦ absurd (none-there (some-group at refl)) ];
+      because = λ is. absurd (refused-not-done (sym is ∙ found at));
     }
+
+-- 9 for no group
+pub tells-nine : {R Group : Type 0} (o : Option ℕ) (follows : ℕ → R) → ((at : ℕ) → o ≡ some at → Group) → (o ≡ none → Group → ⊥) → Tells Group (At 9 0 (Group → ⊥)) (nineUnless o follows)
+tells-nine o follows = tells-place 9 (λ (place : Option ℕ). nineUnless place follows) follows refl (λ _. refl) o

@@ -2,7 +2,8 @@
 -- number from the table ..' and 'A refusal writes nothing into a lent buffer and hands the book of waiting requests back unchanged.'
 -- `f.Post κ a r x` is what the function f ensures of any arguments a at entry, the answer r and the arguments x at exit. The arguments of
 -- `prove` are request, prover, K, limit, records and buffer; of `accept` prover, K, limit and records; of `write` number, runs, first run,
--- factors and buffer; of `work_out` prover, K, run and record; of `volumes` and `draw` profile, prover and records.
+-- factors and buffer; of `work_out` prover, K, run and record; of `volumes` and `draw` profile, prover and records; of `look_up`
+-- temperature, gravity and table.
 use mathlib.Core.Path.{_≡_}
 use mathlib.Core.List.{[]}
 use Prim.Native.Nat.{ℕ}
@@ -17,6 +18,7 @@ use Rattle.draw.specs.Answers.{toldFill, toldCount, toldDraw}
 use Rattle.ticket.specs.Answers.{told as toldTicket}
 use Rattle.live.specs.Live.{told as toldLive}
 use Rattle.live.specs.Panel.{told as toldPanel}
+use Rattle.lookup.specs.Answers.{told as toldLookUp}
 use Rattle.book.specs.Answers.{toldChange, toldTake, toldCommons}
 use Rattle.factors.proofs.cts.Reads as cts
 use Rattle.factors.proofs.cps.Reads as cps
@@ -34,12 +36,13 @@ use Rattle.ticket.proofs.work_out.Reads as ticket
 use Rattle.live.proofs.convert.Reads as convert
 use Rattle.live.proofs.panel.show_temperature.Reads as show-temperature
 use Rattle.live.proofs.panel.show_pressure.Reads as show-pressure
+use Rattle.lookup.proofs.look_up.Reads as look-up
 use Rattle.book.proofs.request.Reads as request
 use Rattle.book.proofs.withdraw.Reads as withdraw
 use Rattle.book.proofs.take.Reads as take
 use Rattle.book.proofs.set_figures.Reads as set-figures
 use Rattle.book.proofs.tell_commons.Reads as tell-commons
-use Rattle.promises.specs.Numbers.{settingNumbers, liquidNumbers, jobNumbers, recordNumbers, runNumbers, drawNumbers, passesNumbers, fillNumbers, ticketNumbers, liveNumbers, panelNumbers, requestNumbers, withdrawalNumbers, takeNumbers, agreementNumbers, commonsNumbers, readNumbers, writeNumbers}
+use Rattle.promises.specs.Numbers.{settingNumbers, liquidNumbers, jobNumbers, recordNumbers, runNumbers, drawNumbers, passesNumbers, fillNumbers, ticketNumbers, liveNumbers, panelNumbers, lookUpNumbers, requestNumbers, withdrawalNumbers, takeNumbers, agreementNumbers, commonsNumbers, readNumbers, writeNumbers}
 use Rattle.promises.specs.Arguments.{first, second, third, fourth, fifth, sixth}
 use Rattle.promises.specs.Ending.{Ends}
 
@@ -65,6 +68,8 @@ pub record Entries : Type 0 where
   pub convert-entry : (κ : _) (a : _) (r : _) (x : _) → convert.Post κ a r x → Ends liveNumbers 0 0 (toldLive r)
   pub show-temperature-entry : (κ : _) (a : _) (r : _) (x : _) → show-temperature.Post κ a r x → Ends panelNumbers 0 0 (toldPanel r)
   pub show-pressure-entry : (κ : _) (a : _) (r : _) (x : _) → show-pressure.Post κ a r x → Ends panelNumbers 0 0 (toldPanel r)
+  -- the table's records, 1 to the count of those lent
+  pub look-up-entry : (κ : _) (a : _) (r : _) (x : _) → look-up.Post κ a r x → Ends lookUpNumbers 1 (recordsIn 8 (third a .now)) (toldLookUp r)
   -- the book: a refusal hands back the book that came in
   pub request-entry : (κ : _) (a : _) (r : _) (x : _) → request.Post κ a r x → Ends requestNumbers 0 0 (toldChange (r .answer))
   pub request-leaves : (κ : _) (a : _) (r : _) (x : _) {number at : ℕ} → request.Post κ a r x → toldChange (r .answer) ≡ refused number at → r .book ≡ first a

@@ -20,12 +20,13 @@ use Rattle.draw.specs.declared.Profile.the-variants.{Unidirectional, Bidirectio
 use Rattle.ticket.specs.Answers.{ticketOf}
 use Rattle.live.specs.Live.{liveOf}
 use Rattle.live.specs.Panel.{panelTemperatureOf, panelPressureOf}
+use Rattle.lookup.specs.Answers.{lookUpOf}
 use Rattle.book.specs.Figures.{emptyBook}
 use Rattle.book.specs.Calls.{requestOf, withdrawalOf, takeOf, settingOf, commonsOf}
 use Rattle.book.specs.declared.Book.{Book}
 use Rattle.book.specs.declared.Figures.{Figures}
 use Rattle.api.specs.Given.{pipeBy, liquidBy, proverBy, factorsBy, ticketBy}
-use Rattle.api.specs.Flat.{noReport, noFigures, noFill, noBase, noVolumes, noReading, nothingShown, noHandout, noCommons}
+use Rattle.api.specs.Flat.{noReport, noFigures, noFill, noBase, noVolumes, noReading, nothingShown, noEntry, noHandout, noCommons}
 use Rattle.api.specs.declared.books.EndakuroDone.{EndakuroDone}
 use Rattle.api.specs.declared.books.EndakuroTaken.{EndakuroTaken}
 use Rattle.api.specs.declared.books.EndakuroCommons.{EndakuroCommons}
@@ -50,10 +51,11 @@ use Rattle.api.proofs.tickets.endakuro_ticket.Reads as ticket
 use Rattle.api.proofs.readings.endakuro_live.Reads as live
 use Rattle.api.proofs.panel.endakuro_panel_temperature.Reads as panel-temperature
 use Rattle.api.proofs.panel.endakuro_panel_pressure.Reads as panel-pressure
+use Rattle.api.proofs.lookups.endakuro_look_up.Reads as look-up
 use Rattle.api.proofs.books.endakuro_empty.Reads as empty
-use Rattle.promises.specs.Numbers.{settingNumbers, liquidNumbers, jobNumbers, recordNumbers, drawNumbers, passesNumbers, fillNumbers, ticketNumbers, liveNumbers, panelNumbers, requestNumbers, withdrawalNumbers, takeNumbers, agreementNumbers, commonsNumbers, readNumbers, writeNumbers}
+use Rattle.promises.specs.Numbers.{settingNumbers, liquidNumbers, jobNumbers, recordNumbers, drawNumbers, passesNumbers, fillNumbers, ticketNumbers, liveNumbers, panelNumbers, lookUpNumbers, requestNumbers, withdrawalNumbers, takeNumbers, agreementNumbers, commonsNumbers, readNumbers, writeNumbers}
 use Rattle.promises.specs.Arguments.{first, second, third, fourth, fifth, sixth}
-use Rattle.promises.specs.FlatEnding.{FlatEnds, LeavesAsFound, byKind, factorIn, reportIn, runIn, fillIn, passesIn, baseIn, volumesIn, readingIn, shownIn, changeIn, handoutIn, commonsIn}
+use Rattle.promises.specs.FlatEnding.{FlatEnds, LeavesAsFound, byKind, factorIn, reportIn, runIn, fillIn, passesIn, baseIn, volumesIn, readingIn, shownIn, entryIn, changeIn, handoutIn, commonsIn}
 use Rattle.promises.specs.InPlaceC.{Requests, Withdraws, Takes, Sets, Shares}
 
 pub record EntriesC : Type 0 where
@@ -90,6 +92,7 @@ pub record EntriesC : Type 0 where
   pub live-entry : (κ : _) (a : _) (r : _) (x : _) → live.Post κ a r x → FlatEnds liveNumbers 0 0 noReading (readingIn r) (liveOf (first a) (second a))
   pub panel-temperature-entry : (κ : _) (a : _) (r : _) (x : _) → panel-temperature.Post κ a r x → FlatEnds panelNumbers 0 0 nothingShown (shownIn r) (panelTemperatureOf (first a))
   pub panel-pressure-entry : (κ : _) (a : _) (r : _) (x : _) → panel-pressure.Post κ a r x → FlatEnds panelNumbers 0 0 nothingShown (shownIn r) (panelPressureOf (first a))
+  pub look-up-entry : (κ : _) (a : _) (r : _) (x : _) → look-up.Post κ a r x → FlatEnds lookUpNumbers 1 (recordsIn 8 (third a .now)) noEntry (entryIn r) (lookUpOf (first a) (second a) (third a .now))
   -- the book: a refusal leaves the book that was found
   pub request-entry : (shipper number : ℕ) (found left : Book) (r : EndakuroDone) → Requests shipper number found left r → FlatEnds requestNumbers 0 0 tt (changeIn r) (requestOf found shipper number)
   pub request-leaves : (shipper number : ℕ) (found left : Book) (r : EndakuroDone) → Requests shipper number found left r → LeavesAsFound (changeIn r) left found

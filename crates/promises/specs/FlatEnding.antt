@@ -13,6 +13,7 @@ use Rattle.draw.specs.declared.FillFigures.{FillFigures}
 use Rattle.draw.specs.declared.BaseVolume.{BaseVolume}
 use Rattle.ticket.specs.declared.Volumes.{Volumes}
 use Rattle.live.specs.Live.{Values}
+use Rattle.lookup.specs.declared.Entry.{Entry}
 use Rattle.book.specs.Answers.{Handed, Shared}
 use Rattle.api.specs.declared.corrections.EndakuroFactor.{EndakuroFactor}
 use Rattle.api.specs.declared.reports.EndakuroReport.{EndakuroReport}
@@ -23,6 +24,7 @@ use Rattle.api.specs.declared.water.EndakuroDraw.{EndakuroDraw}
 use Rattle.api.specs.declared.tickets.EndakuroVolumes.{EndakuroVolumes}
 use Rattle.api.specs.declared.readings.EndakuroLive.{EndakuroLive}
 use Rattle.api.specs.declared.panel.EndakuroPanel.{EndakuroPanel}
+use Rattle.api.specs.declared.lookups.EndakuroEntry.{EndakuroEntry}
 use Rattle.api.specs.declared.books.EndakuroDone.{EndakuroDone}
 use Rattle.api.specs.declared.books.EndakuroTaken.{EndakuroTaken}
 use Rattle.api.specs.declared.books.EndakuroCommons.{EndakuroCommons}
@@ -99,6 +101,9 @@ readingIn f = record { number = f .number; at = f .at; values = record { tenths 
 
 abbrev pub shownIn : EndakuroPanel → Flat Float
 shownIn f = record { number = f .number; at = f .at; values = f .shown }
+
+abbrev pub entryIn : EndakuroEntry → Flat Entry
+entryIn f = record { number = f .number; at = f .at; values = record { temperature = f .temperature; gravity = f .gravity; compressibility = f .compressibility } }
 
 abbrev pub changeIn : EndakuroDone → Flat Unit
 changeIn f = record { number = f .number; at = f .at; values = tt }

@@ -12,8 +12,9 @@ use Rattle.draw.specs.declared.Counted.{Counted}
 use Rattle.ticket.specs.Answers.{told as toldTicket}
 use Rattle.live.specs.Live.{told as toldLive}
 use Rattle.live.specs.Panel.{told as toldPanel}
+use Rattle.lookup.specs.Answers.{told as toldLookUp}
 use Rattle.book.specs.Answers.{toldChange, toldTake, toldCommons}
-use Rattle.api.specs.Flat.{flatFactor, flatReport, flatRun, flatFill, flatPasses, flatDraw, flatVolumes, flatLive, flatPanel, flatDone, flatTaken, flatCommons, flatQuotient}
+use Rattle.api.specs.Flat.{flatFactor, flatReport, flatRun, flatFill, flatPasses, flatDraw, flatVolumes, flatLive, flatPanel, flatEntry, flatDone, flatTaken, flatCommons, flatQuotient}
 
 abbrev pub LosesNothing : {A F R : Type 0} → (Told A → F) → (R → Told A) → Type 0
 LosesNothing {A} {F} {R} flat told = (a b : R) → flat (told a) ≡ flat (told b) → a ≡ b
@@ -29,6 +30,7 @@ pub record Flattened : Type 0 where
   pub ticket-loses-nothing : LosesNothing flatVolumes toldTicket
   pub live-loses-nothing : LosesNothing flatLive toldLive
   pub panel-loses-nothing : LosesNothing flatPanel toldPanel
+  pub look-up-loses-nothing : LosesNothing flatEntry toldLookUp
   pub change-loses-nothing : LosesNothing flatDone toldChange
   pub take-loses-nothing : LosesNothing flatTaken toldTake
   pub commons-lose-nothing : LosesNothing flatCommons toldCommons

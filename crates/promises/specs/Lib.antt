@@ -28,6 +28,9 @@ pub mod ZeroGage
 pub mod Formulas
 pub mod EntryFormulas
 pub mod Panel
+pub mod PrintedTable
+pub mod LookUp
+pub mod PrintedEntry
 pub mod FlatEnding
 pub mod EntriesC
 pub mod Flattened

@@ -46,6 +46,11 @@ liveNumbers = 12 ∷ 13 ∷ []
 abbrev pub panelNumbers : List ℕ
 panelNumbers = 13 ∷ []
 
+-- 02, 'Look up compressibility': '1 for length, 32 for a faulty or disordered record with its place, 13 for the asked numbers, 33 for no such
+-- pair, in that order'
+abbrev pub lookUpNumbers : List ℕ
+lookUpNumbers = 1 ∷ 32 ∷ 13 ∷ 33 ∷ []
+
 -- 'A book call, lowest number first: a request 20 to 25; a withdrawal 20, 21, 22, 26; a take 20, 27.'
 abbrev pub requestNumbers : List ℕ
 requestNumbers = 20 ∷ 21 ∷ 22 ∷ 23 ∷ 24 ∷ 25 ∷ []

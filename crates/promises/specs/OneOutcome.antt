@@ -28,6 +28,8 @@ use Rattle.ranges.proofs.is_scale.Reads as ranges-is-scale
 use Rattle.ranges.proofs.is_reading.Reads as ranges-is-reading
 use Rattle.ranges.proofs.is_meter_factor.Reads as ranges-is-meter-factor
 use Rattle.ranges.proofs.is_sediment.Reads as ranges-is-sediment
+use Rattle.ranges.proofs.is_gravity.Reads as ranges-is-gravity
+use Rattle.ranges.proofs.are_entries.Reads as ranges-are-entries
 use Rattle.exact.proofs.product.Reads as exact-product
 use Rattle.exact.proofs.sum.Reads as exact-sum
 use Rattle.exact.proofs.is_at_most.Reads as exact-is-at-most
@@ -74,6 +76,7 @@ use Rattle.ticket.proofs.work_out.Reads as ticket-work-out
 use Rattle.live.proofs.convert.Reads as live-convert
 use Rattle.live.proofs.panel.show_temperature.Reads as live-show-temperature
 use Rattle.live.proofs.panel.show_pressure.Reads as live-show-pressure
+use Rattle.lookup.proofs.look_up.Reads as lookup-look-up
 use Rattle.book.proofs.Book.empty.Reads as book-empty
 use Rattle.book.proofs.Outcomes.{SoundPre, SoundPost}
 use Rattle.book.proofs.request.Reads as book-request
@@ -113,6 +116,8 @@ pub record OneOutcome : Type 0 where
   pub ranges-is-reading-one : OneAnswer ranges-is-reading.Pre ranges-is-reading.Post
   pub ranges-is-meter-factor-one : OneAnswer ranges-is-meter-factor.Pre ranges-is-meter-factor.Post
   pub ranges-is-sediment-one : OneAnswer ranges-is-sediment.Pre ranges-is-sediment.Post
+  pub ranges-is-gravity-one : OneAnswer ranges-is-gravity.Pre ranges-is-gravity.Post
+  pub ranges-are-entries-one : OneAnswer ranges-are-entries.Pre ranges-are-entries.Post
   pub exact-product-one : OneAnswer exact-product.Pre exact-product.Post
   pub exact-sum-one : OneAnswer exact-sum.Pre exact-sum.Post
   pub exact-is-at-most-one : OneAnswer exact-is-at-most.Pre exact-is-at-most.Post
@@ -166,6 +171,7 @@ pub record OneOutcome : Type 0 where
   pub live-convert-one : OneAnswer live-convert.Pre live-convert.Post
   pub live-show-temperature-one : OneAnswer live-show-temperature.Pre live-show-temperature.Post
   pub live-show-pressure-one : OneAnswer live-show-pressure.Pre live-show-pressure.Post
+  pub lookup-look-up-one : OneAnswer lookup-look-up.Pre lookup-look-up.Post
   pub book-empty-one : OneAnswer book-empty.Pre book-empty.Post
   pub book-is-sound-one : OneAnswer SoundPre SoundPost
   pub book-request-one : OneAnswer book-request.Pre book-request.Post

@@ -20,6 +20,7 @@ use Rattle.api.proofs.tickets.endakuro_ticket.Reads as ticket
 use Rattle.api.proofs.readings.endakuro_live.Reads as live
 use Rattle.api.proofs.panel.endakuro_panel_temperature.Reads as panel-temperature
 use Rattle.api.proofs.panel.endakuro_panel_pressure.Reads as panel-pressure
+use Rattle.api.proofs.lookups.endakuro_look_up.Reads as look-up
 use Rattle.api.proofs.books.endakuro_empty.Reads as empty
 use Rattle.promises.specs.Arguments.{fifth, sixth}
 use Rattle.promises.specs.Outcome.{OneAnswer, OneLeft}
@@ -50,4 +51,5 @@ pub record OneOutcomeC : Type 0 where
   pub live-one : OneAnswer live.Pre live.Post
   pub panel-temperature-one : OneAnswer panel-temperature.Pre panel-temperature.Post
   pub panel-pressure-one : OneAnswer panel-pressure.Pre panel-pressure.Post
+  pub look-up-one : OneAnswer look-up.Pre look-up.Post
   pub empty-one : OneAnswer empty.Pre empty.Post

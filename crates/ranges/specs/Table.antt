@@ -1,4 +1,4 @@
--- 01, 'Units and ranges': the table, a line for each quantity, in its order; then the ranges that 'Records' and 'Ticket' add.
+-- 01, 'Units and ranges': the table, a line for each quantity, in its order; then the ranges that 'Records' and 'Ticket' add, and 02's.
 use mathlib.Core.Bool.{Bool}
 use Prim.Native.Nat.{ℕ}
 use lib.IntN.{ℤ, pos, negℤ}
@@ -103,3 +103,11 @@ meterFactorOk = within 8000 12000
 -- 'Ticket': sediment and water S, 0.001 %
 unfoldable pub sedimentOk : ℕ → Bool
 sedimentOk = within 0 100000
+
+-- 02, 'Look up compressibility': API gravity, 0.1 °API
+unfoldable pub gravityOk : ℕ → Bool
+gravityOk = within 0 900
+
+-- 02, the same: records of a table
+unfoldable pub entriesOk : ℕ → Bool
+entriesOk = within 1 4096

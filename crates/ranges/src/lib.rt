@@ -2,7 +2,7 @@
 // table (specs/Table.antt): an end of a range stands in its function and nowhere else in the code.
 ghost use mathlib.Core.Path.{_≡_};
 ghost use Rattle.ranges.specs.Within.{within, withinSigned};
-ghost use Rattle.ranges.specs.Table.{temperatureOk, drawProverOk, drawMeasureOk, pressureOk, coefficientOk, modulusOk, diameterOk, wallOk, compressibilityOk, ctlOk, runFactorOk, ctdwOk, volumeOk, pulsesOk, kFactorOk, limitOk, runsOk, passesOk, pairedPassesOk, fillsOk, certifiedOk, scaleOk, readingOk, meterFactorOk, sedimentOk};
+ghost use Rattle.ranges.specs.Table.{temperatureOk, drawProverOk, drawMeasureOk, pressureOk, coefficientOk, modulusOk, diameterOk, wallOk, compressibilityOk, ctlOk, runFactorOk, ctdwOk, volumeOk, pulsesOk, kFactorOk, limitOk, runsOk, passesOk, pairedPassesOk, fillsOk, certifiedOk, scaleOk, readingOk, meterFactorOk, sedimentOk, gravityOk, entriesOk};
 
 // x is lo to hi.
 fn is_within(x: u64, lo: u64, hi: u64) -> bool
@@ -191,4 +191,18 @@ pub fn is_sediment(s: u64) -> bool
     ensures { λ r. ⌜ r ≡ sedimentOk s ⌝ }
 {
     is_within(s, 0, 100000)
+}
+
+// API gravity, 0.1 °API.
+pub fn is_gravity(gravity: u64) -> bool
+    ensures { λ r. ⌜ r ≡ gravityOk gravity ⌝ }
+{
+    is_within(gravity, 0, 900)
+}
+
+// Entries of a table of compressibility.
+pub fn are_entries(entries: u64) -> bool
+    ensures { λ r. ⌜ r ≡ entriesOk entries ⌝ }
+{
+    is_within(entries, 1, 4096)
 }

@@ -56,6 +56,10 @@ pub enum Refusal {
     BookNotEmpty,
     // 31: figures outside the rules
     FiguresOutside,
+    // 32: a faulty or disordered record of a table
+    TableRecord(u16),
+    // 33: no such pair in a table
+    NoSuchPair,
 }
 
 // What judging finds: nothing, or why the caller is refused.
@@ -100,6 +104,8 @@ pub fn give_back(refusal: Refusal) -> GivenBack
         Refusal::NothingToTake => GivenBack { number: 27, at: 0 },
         Refusal::BookNotEmpty => GivenBack { number: 30, at: 0 },
         Refusal::FiguresOutside => GivenBack { number: 31, at: 0 },
+        Refusal::TableRecord(at) => GivenBack { number: 32, at },
+        Refusal::NoSuchPair => GivenBack { number: 33, at: 0 },
     }
 }
 

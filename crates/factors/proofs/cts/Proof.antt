@@ -14,13 +14,13 @@ use Rattle.exact.specs.Rounding.{rounded, _over_}
 use Rattle.refusals.proofs.Laws.{judged-fine, judged-fault, demand-holds, demand-fails, orElse-next, orElse-first}
 use Rattle.ranges.specs.Table.{temperatureOk, coefficientOk}
 use Rattle.ranges.proofs.Laws.{within-high}
-use Rattle.ranges.proofs.Counted.{sum-fits, cast-is, cast-fits}
+use Rattle.ranges.proofs.Counted.{Warm, warm, sum-fits, cast-is, cast-fits}
 use Rattle.factors.specs.Metal.{coefficientOf, metalOk}
 use Rattle.factors.specs.Places.{digits}
 use Rattle.factors.specs.Fractions.{cts}
 use Rattle.factors.specs.Rounded.{ctsAt}
 use Rattle.factors.specs.Answers.{told, ctsOf}
-use Rattle.factors.proofs.Steel.{Warm, warm, parts}
+use Rattle.factors.proofs.Steel.{parts}
 use Rattle.factors.proofs.cts.Tie as tie
 
 abbrev start : tie.Then2 → tie.Start

@@ -4,10 +4,10 @@ use borrow.Author.Needs.{needs}
 use Rattle.endakuro.proofs.entries.find_name.Tie as tie
 
 abbrev Inv-loop : tie.InvT-loop
-Inv-loop name names i₀ i = i ≤ 26
+Inv-loop name names i₀ i = i ≤ 27
 
 abbrev μ-loop : tie.MeasureT-loop
-μ-loop name names i₀ i = 26 - i
+μ-loop name names i₀ i = 27 - i
 
 pub find-name-spec : {M : Type 1} → Rattle.endakuro.proofs.entries.find_name.Statement.statement M
 find-name-spec =
