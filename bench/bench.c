@@ -7,7 +7,7 @@
 #include <stdlib.h>
 #include <time.h>
 
-static const Kind *const kinds[] = {&jobs,  &draws,    &round_trips, &tickets,   &readings,
+static const Kind *const kinds[] = {&jobs,  &draws,    &round_trips, &tickets,   &readings,      &channels,
                                     &panel, &look_ups, &calls,       &quotients, &long_quotients};
 
 #define KINDS (sizeof kinds / sizeof *kinds)

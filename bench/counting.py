@@ -22,6 +22,7 @@ KINDS = (
     "bidirectional draws",
     "tickets",
     "live readings",
+    "smart transmitters",
     "panel numbers",
     "look-ups in 4,096",
     "book calls",

@@ -19,4 +19,5 @@ typedef struct {
     long (*differences)(int side);
 } Kind;
 
-extern const Kind jobs, draws, round_trips, tickets, readings, panel, look_ups, calls, quotients, long_quotients;
+extern const Kind jobs, draws, round_trips, tickets, readings, channels, panel, look_ups, calls, quotients,
+    long_quotients;

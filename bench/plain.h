@@ -13,6 +13,7 @@
     EndakuroDraw side##_bidirectional(EndakuroProver prover, const uint8_t *records, size_t size);                     \
     EndakuroVolumes side##_ticket(EndakuroTicket ticket);                                                              \
     EndakuroLive side##_live(float temperature, float pressure);                                                       \
+    EndakuroLive side##_channels(EndakuroChannel temperature, EndakuroChannel pressure);                               \
     EndakuroPanel side##_panel_temperature(int16_t tenths);                                                            \
     EndakuroPanel side##_panel_pressure(uint16_t psi);                                                                 \
     EndakuroEntry side##_look_up(int16_t temperature, uint16_t gravity, const uint8_t *table, size_t length);          \
@@ -27,9 +28,10 @@ DECLARE(plain);
 DECLARE(bare);
 DECLARE(previous);
 
-// An archive of before bidirectional provers has none, one of before agreements knows 2 and 8 alone, and one of before
-// look-ups has no look-up.
+// An archive of before bidirectional provers has none, one of before agreements knows 2 and 8 alone, one of before
+// look-ups has no look-up, and one of before smart transmitters has no channels.
 #pragma weak previous_bidirectional
 #pragma weak previous_set_figures
 #pragma weak previous_commons
 #pragma weak previous_look_up
+#pragma weak previous_channels

@@ -1,7 +1,7 @@
 """What of a job a refusal is about: the record, the field, its value and its range. Found by comparing with the
 table of ranges, or by asking the line program; nothing is worked out here."""
 
-from . import fields, figures, look_up_faults
+from . import channels, fields, figures, look_up_faults
 from .field_faults import of_count, of_fields, of_unnamed_bytes, out_of_range, unknown
 from .look_ups import Missed
 from .profiles import BIDIRECTIONAL
@@ -123,14 +123,27 @@ def of_ticket(job, refusal, program):
 def of_live(job, refusal, program):
     """Temperature is judged first: it is at fault where it is refused beside a pressure of 0 too."""
     try:
-        program.ask("live", job.singles["temperature"].bits, "00000000")
+        program.ask(*channels.line(channels.beside_zero(job.sent)))
         key = "pressure"
     except Refused:
         key = "temperature"
-    field, given = fields.LIVE[key], job.singles[key]
+    field, sent = fields.LIVE[key], job.sent[key]
+    match refusal.number:
+        case 34:
+            return [Detail(f"{field.label}: the transmitter sent {sent.text} in place of a reading", key)]
+        case 35:
+            return [Detail(f"{field.label}: the transmitter sent {of_another_kind(sent, key)}", key)]
     judged = f"range {field.range} to the nearest {field.unit.step}"
-    words = f"{field.label} is {given.text}, {judged}"
-    return [Detail(words, key, None, field.low, field.high, field.unit)]
+    if sent.kind == "celsius":
+        judged += f", {fields.ABOUT_IN_CELSIUS}"
+    return [Detail(f"{field.label} is {sent.text}, {judged}", key, None, field.low, field.high, field.unit)]
+
+
+def of_another_kind(sent, key):
+    """A channel that does not belong in its place, and what does."""
+    [own] = channels.PLACES[sent.kind]
+    units = " or ".join(unit for kind, unit in channels.UNITS.items() if key in channels.PLACES[kind])
+    return f"a {own}, {sent.text}, where a {key} in {units} belongs"
 
 
 def of_panel(job, refusal, program):

@@ -147,6 +147,10 @@ CPL_FROM_PE = "1 / (1 - F x (P - Pe))"
 
 TEMPERATURE = Field("temperature", "temperature", DEGREE, -200, 2000, "h")
 LIVE = named(TEMPERATURE, Field("pressure", "pressure", PSI, 0, 1500, "H"))
+# 02, of a channel that is tagged: a single by its kind, or 'a fault code of one byte'.
+FAULT = Field("fault", "fault code", NUMBER, 0, 255, "B")
+# A temperature's range for those who read Celsius: what is judged are tenths of °F, whose ends are no tenths of °C.
+ABOUT_IN_CELSIUS = "about -28.9 to 93.3 °C"
 # The panel takes what a live reading comes to.
 PANEL = LIVE
 

@@ -2,7 +2,7 @@
 
 from dataclasses import dataclass
 
-from . import fields
+from . import channels, fields
 from .program import hexed
 from .records import FILL_LAYOUT, LENGTH
 from .singles import Single
@@ -134,7 +134,7 @@ def ticket(job, program):
 
 
 def live(job, program):
-    return program.numbers("live", *(single.bits for single in job.singles.values()))
+    return program.numbers(*channels.line(job.sent))
 
 
 def on_panel(counts, program):

@@ -84,6 +84,18 @@ def entries(name, known):
     ]
 
 
+def channel(fault):
+    """What a channel's table says that the transmitter tags."""
+    return [
+        "a channel that is tagged, in place of either number: temperature = { celsius = 22.5 }",
+        row("fahrenheit, celsius", f"a temperature by its kind; in °C the range is {fields.ABOUT_IN_CELSIUS},"),
+        row("", f"and is judged to the nearest {fields.DEGREE.step} as that in °F is"),
+        row("pressure", "a pressure in psi"),
+        row(fault.key, f"{fault.label}, {fault.range}, that came in place of a reading: it is refused,"),
+        row("", "as is a kind where another belongs"),
+    ]
+
+
 def described(about, *parts):
     """A command's text: what it does, the job file, its keys."""
     return "\n".join([about, "", JOB_FILE, "", *(line for part in parts for line in part)])
@@ -116,8 +128,9 @@ TICKET = described(
 LIVE = described(
     "Prints a transmitter's temperature and pressure as the skid takes them, and the singles by which the\n"
     "operator's panel shows them. Each is a number that a single holds exactly (73.25), nan or inf, or the\n"
-    'single\'s bits in quotes ("42928000").',
+    'single\'s bits in quotes ("42928000"), alone or behind its kind where the transmitter tags its channels.',
     ["[live]", *keys(fields.LIVE)],
+    channel(fields.FAULT),
 )
 PANEL = described(
     "Prints the singles by which the operator's panel shows a temperature and a pressure, for those who wire\n"

@@ -3,14 +3,13 @@
 from dataclasses import replace
 from hashlib import sha256
 
-from . import entry_files, fields, look_up_jobs
+from . import channels, entry_files, fields, look_up_jobs
 from .badfile import BadFile
 from .hints import echo, near, offer
 from .jobfiles import File, octets_of
 from .kinds import Draw, Entry, Live, Panel, Prover, Proving, Ticket
 from .profiles import PROFILES, UNIDIRECTIONAL, says_bidirectional
 from .records import FILL_LAYOUT, LENGTH, RUN_LAYOUT
-from .singles import single
 from .tables import TOLD, Table, kind_of
 
 # Far more than any job may have; a line of the program holds them, so that the program refuses the job itself.
@@ -139,11 +138,12 @@ def draw_of(top):
     return Draw(top.file.path, heading, prover, fills, profile_of(top, table, heading))
 
 
-def sole_table(top, key, known, others=()):
-    """The table of a job that has no other but its heading and perhaps some others."""
-    top.only(["heading", key, *others], dict.fromkeys(known, f"in [{key}]"))
+def sole_table(top, key, known, others=(), homes=None):
+    """The table of a job that has no other but its heading and perhaps some others; `homes` says where keys belong that
+    stand deeper than in that table."""
+    top.only(["heading", key, *others], dict.fromkeys(known, f"in [{key}]") | (homes or {}))
     table = top.table(key)
-    table.only(known)
+    table.only(known, homes)
     return table
 
 
@@ -155,8 +155,8 @@ def ticket_of(top):
 
 
 def live_of(top):
-    table = sole_table(top, "live", fields.LIVE)
-    return Live(top.file.path, heading_of(top), {key: single(table, each) for key, each in fields.LIVE.items()})
+    table = sole_table(top, "live", fields.LIVE, homes=channels.HOMES)
+    return Live(top.file.path, heading_of(top), channels.read(table))
 
 
 def panel_of(top):

@@ -113,11 +113,21 @@ def ticket(worked):
 
 
 def singles(told):
-    return {key: {"number": own.number, "bits": own.bits} for key, own in told.items()}
+    return {key: single(own) for key, own in told.items()}
+
+
+def single(own):
+    return {"number": own.number, "bits": own.bits}
+
+
+def sent(own):
+    """What a transmitter sent; a channel that it tagged has its kind."""
+    kind = {"kind": own.kind} if own.tagged else {}
+    return kind | ({"code": own.code} if own.single is None else single(own.single))
 
 
 def live(worked):
-    told = {"readings": singles(worked.job.singles)}
+    told = {"readings": {key: sent(own) for key, own in worked.job.sent.items()}}
     if worked.answer:
         told["result"] = read_figures(dict(zip(fields.LIVE, worked.answer)), fields.LIVE)
     return told | ({"panel": singles(worked.panel)} if worked.panel else {})

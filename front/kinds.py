@@ -114,7 +114,8 @@ class Ticket:
 class Live:
     path: str
     heading: dict
-    singles: dict
+    # A `channels.Sent` for each place.
+    sent: dict
     digest: str = ""
     files: tuple = ()
     kind = "live"

@@ -31,6 +31,8 @@ WORDS = {
     31: "figures outside the rules",
     32: "faulty or disordered record",
     33: "no such pair",
+    34: "fault code from a transmitter",
+    35: "channel of the wrong kind",
 }
 
 

@@ -1,6 +1,6 @@
 """The short pages: a measurement ticket, a live reading, numbers for the panel, a report record read back."""
 
-from . import fields, look_up_pages, page, version
+from . import channels, fields, look_up_pages, page, version
 from .fields import CPL_FROM_PE, FACTOR, LIVE, PANEL, READING
 from .page import Page, Pairs, Section, Signatures
 from .records import LENGTH
@@ -45,10 +45,12 @@ def volumes(figures, boils):
 
 def live(worked):
     job = worked.job
-    told = {key: single.text for key, single in job.singles.items()}
+    told = {key: sent.text for key, sent in job.sent.items()}
     for (key, field), count in zip(LIVE.items(), worked.answer or ()):
         told[key] = f"{field.text(count)}, from {told[key]}"
-    blocks = [*page.heading(job, ()), Section("READING"), labelled(LIVE, told)]
+    # In half a line of print a single is broken; the page of a plain reading stays as it was.
+    rows = labelled(LIVE, told, alone=channels.any_tagged(job.sent))
+    blocks = [*page.heading(job, ()), Section("READING"), rows]
     if worked.panel:
         shows = {key: single.text for key, single in worked.panel.items()}
         blocks += [Section("ON THE PANEL"), labelled(PANEL, shows, alone=True)]

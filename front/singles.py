@@ -8,8 +8,10 @@ from decimal import Decimal
 from .hints import echo
 from .tables import kind_of
 from .toml_text import TOLD, Written
+from .units import CELSIUS, normal, split
 
 EXPECTED = "a number, or eight hex digits in quotes"
+ZERO = "00000000"
 BITS = re.compile(r"(?:0x)?([0-9a-fA-F]{8})")
 
 
@@ -38,29 +40,34 @@ def bits_of(number):
         return None
 
 
-def single(table, field):
-    """A field's single: a string of eight hex digits is its bits, a number must be held by a single exactly. Zero where
+def single(table, key, unit):
+    """A key's single: a string of eight hex digits is its bits, a number must be held by a single exactly. Zero where
     there is none to be had."""
-    bits = bits_in(table, field)
-    return Single(bits or "00000000", field.unit.name)
+    return Single(bits_in(table, key, unit) or ZERO, unit)
 
 
-def bits_in(table, field):
-    if field.key not in table.values:
-        return table.lacks(field.key, f"the {field.label} in {field.unit.name}, or its bits in hex")
-    written = table.values[field.key]
+def bits_in(table, key, unit):
+    written = table.values.get(key, TOLD)
     if written == TOLD:
         return None
     if type(written) is str:
         match = BITS.fullmatch(written)
-        return match[1].lower() if match else table.bad(field.key, f"{echo(written)} is no single: expected {EXPECTED}")
+        if match:
+            return match[1].lower()
+        return table.bad(key, f"{echo(written)} is no single: expected {EXPECTED}{in_celsius(written, unit)}")
     if isinstance(written, bool) or not isinstance(written, (int, Written)):
-        return table.bad(field.key, f"expected {EXPECTED}, found {kind_of(written)}")
+        return table.bad(key, f"expected {EXPECTED}, found {kind_of(written)}")
     number = Decimal(written if isinstance(written, int) else written.replace("_", ""))
     bits = bits_of(number)
     if bits is None:
-        return table.bad(field.key, f"is beyond every single: expected {EXPECTED}")
-    held = Single(bits, field.unit.name)
+        return table.bad(key, f"is beyond every single: expected {EXPECTED}")
+    held = Single(bits, unit)
     if number.is_nan() or number == Decimal(held.number):
         return bits
-    return table.bad(field.key, f'no single holds {echo(written)} exactly: the nearest is {held.number}, "{bits}"')
+    return table.bad(key, f'no single holds {echo(written)} exactly: the nearest is {held.number}, "{bits}"')
+
+
+def in_celsius(written, unit):
+    """How to write a number of °C that stands where °F are meant."""
+    number, own = split(written)
+    return f"; °C is written {{ celsius = {echo(number)} }}" if unit == "°F" and normal(own) in CELSIUS else ""

@@ -35,6 +35,12 @@ LEFT_OUT = None
 PROVER = {"inside_diameter": "13.376", "wall_thickness": "0.312", "modulus": "30_000_000"}
 
 
+# What a file says in place of plain numbers.
+TAGGED = """
+# Of a transmitter that tags what it sends: fahrenheit, celsius or pressure with its number, or fault with {codes}
+# temperature = {{ celsius = 22.5 }}
+# pressure = {{ pressure = 40 }}
+"""
 TABLE = "table"
 # 002 prints one entry of its table, in its example.
 PRINTED = """\
@@ -126,7 +132,8 @@ def table():
 def live():
     text = HEAD.format(what="A live reading", kind="live") + HEADING.format(title="A reading")
     text += '\n[live] # numbers that a single holds exactly, or its eight hex digits in quotes: "42928000"\n'
-    return text + rows(fields.LIVE, {"temperature": "73.25", "pressure": "40"})
+    text += rows(fields.LIVE, {"temperature": "73.25", "pressure": "40"})
+    return text + TAGGED.format(codes=fields.FAULT.range)
 
 
 def panel():

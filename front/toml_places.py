@@ -92,9 +92,11 @@ def lines_of(text):
 
 
 def words(path):
-    """A key's place in words: 'run 3, pulses' and '[prover], metal'."""
+    """A key's place in words: 'run 3, pulses', '[prover], metal' and '[live], temperature, celsius'."""
     *table, key = path
     if not table:
         return key
-    name = f"{table[0]} {table[1]}" if len(table) > 1 else f"[{table[0]}]"
-    return f"{name}, {key}"
+    first, *inner = table
+    if inner and isinstance(inner[0], int):
+        return f"{first} {inner[0]}, {key}"
+    return ", ".join((f"[{first}]", *map(str, inner), str(key)))

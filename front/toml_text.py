@@ -15,6 +15,9 @@ UNIT = re.compile(r"([+-]?\d[\d.,_]*(?:[eE][+-]?\d+)?)\s*([^\d\s,].*)")
 HALF = re.compile(r"[+-]?(?:\.\d+|\d+\.)")
 ZEROS = re.compile(r"[+-]?0+\d+(?:\.\d+)?")
 WORDS = re.compile(r"[^\W\d][\w .-]*")
+# A table in one line that has one key: what is wrong with it is wrong inside.
+INLINE = re.compile(r"\{([^={}]*=[^={}]*)\}")
+TWICE = re.compile(r"Duplicate inline table key '(.*)'")
 # Longer than Python turns into a number, and no figure.
 LONG = re.compile(r"\d{4000,}")
 TOO_LONG = "has too many digits"
@@ -72,6 +75,10 @@ def said(line, words):
     value = match[2]
     if is_second(words):
         return "stands there twice: expected once"
+    if twice := TWICE.fullmatch(words):
+        return f"{echo(twice[1])} stands in it twice: expected once"
+    if inside := INLINE.fullmatch(value):
+        return said(inside[1], words)
     if not value:
         return "has no value"
     if words == TOO_LONG:

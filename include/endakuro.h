@@ -25,6 +25,7 @@
  *   12   reading not finite                              31  figures outside the rules
  *   13   reading, number for the panel, or number to     32 * table record faulty or out of order
  *        look up, out of range                           33  no such pair in the table
+ *   34   fault code from a transmitter                   35  channel of the wrong kind
  *
  * UNITS AND RANGES, whole numbers all of them. Outside its range a number is refused, never bent.
  *
@@ -301,6 +302,29 @@ typedef struct EndakuroLive {
  * 13 for the temperature, then 12, 13 for the pressure; the range is judged on the whole number. */
 EndakuroLive endakuro_live(float temperature, float pressure);
 
+/* ---- Smart transmitters ----
+ *
+ * They tag what they send: a channel is a temperature in °F or °C or a pressure in psi gage, each with its single,
+ * or a fault code. */
+
+enum {
+    ENDAKURO_FAHRENHEIT = 0,
+    ENDAKURO_CELSIUS = 1,
+    ENDAKURO_PRESSURE = 2,
+    ENDAKURO_FAULT = 3
+};
+
+typedef struct EndakuroChannel {
+    uint32_t kind; /* ENDAKURO_FAHRENHEIT .. */
+    uint32_t bits; /* its single's 32 bits, any; of a fault its code, whatever it is */
+} EndakuroChannel;
+
+/* A live reading from two channels, the temperature's first. °C go to tenths of °F as 320 + 18c, from the exact
+ * number in the bits and rounded once, halves away from zero; °F and psi as in endakuro_live, which answers the same
+ * of the same two singles. Refuses, for the temperature and then for the pressure, 34, 35, 12, 13; record is 0. A
+ * kind outside the four is of the wrong kind in either place: 35. */
+EndakuroLive endakuro_channels(EndakuroChannel temperature, EndakuroChannel pressure);
+
 /* ---- The panel ----
  *
  * The operator's panel takes singles, in °F and psi gage. endakuro_live of the two singles shown gives the tenths
@@ -516,6 +540,9 @@ ENDAKURO_AT(EndakuroLive, record, 2);
 ENDAKURO_AT(EndakuroLive, tenths, 4);
 ENDAKURO_AT(EndakuroLive, psi, 6);
 ENDAKURO_SIZE(EndakuroLive, 8);
+
+ENDAKURO_AT(EndakuroChannel, bits, 4);
+ENDAKURO_SIZE(EndakuroChannel, 8);
 
 ENDAKURO_AT(EndakuroPanel, record, 2);
 ENDAKURO_AT(EndakuroPanel, shown, 4);

@@ -4,6 +4,7 @@ import re
 from functools import partial
 
 import book
+import channels
 import draw
 import group
 import live
@@ -71,6 +72,28 @@ def single_octets(bits):
     """A single as an answer tells it, which is how an operand is written."""
     return bits.to_bytes(4, "big")
 
+
+# By its kind, what a channel carries.
+CARRIED = {
+    b"fahrenheit": (channels.FAHRENHEIT, single),
+    b"celsius": (channels.CELSIUS, single),
+    b"pressure": (channels.PRESSURE, single),
+    b"fault": (channels.FAULT, u8),
+}
+
+
+def channel(kind_word, value_word):
+    if kind_word not in CARRIED:
+        raise BadLine
+    kind, read = CARRIED[kind_word]
+    return channels.Channel(kind, read(value_word))
+
+
+def as_typed(word):
+    return word
+
+
+CHANNEL = (as_typed, as_typed)  # two words, read together
 
 SETTINGS = (u8, u16, u32, u32, u32, u32)
 WATER_DRAW = (*SETTINGS, octets)
@@ -172,6 +195,11 @@ def answer_live(temperature, pressure):
     return ok(*live.live(temperature, pressure))
 
 
+def answer_channels(*words):
+    first, second = channel(*words[:2]), channel(*words[2:])
+    return ok(*channels.channels(first, second))
+
+
 def answer_panel_temperature(tenths):
     return ok(single_octets(live.panel_temperature(tenths)))
 
@@ -268,6 +296,7 @@ ENTRIES = {
     b"trips": (WATER_DRAW, partial(answer_volumes, draw.trips)),
     b"ticket": ((u32, u32, *(u16,) * 5, u32), answer_ticket),
     b"live": ((single, single), answer_live),
+    b"channels": ((*CHANNEL, *CHANNEL), answer_channels),
     b"panel_temperature": ((i16,), answer_panel_temperature),
     b"panel_pressure": ((u16,), answer_panel_pressure),
     b"look_up": ((i16, u16, octets), answer_look_up),

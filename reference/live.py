@@ -41,21 +41,29 @@ def judge_range(whole, allowed):
         raise Refused(READING_RANGE)
 
 
-def reading(bits, times, allowed):
+def tenths_of(fahrenheit):
+    return 10 * fahrenheit
+
+
+def psi_of(pressure):
+    return pressure
+
+
+def reading(bits, units_of, allowed):
     # "The exact number in the bits, times 10 for temperature, goes to the nearest whole number,
     # halves away from zero. ... The range is judged on that whole number."
     number = exact_number(bits)
     if number is None:
         raise Refused(NOT_FINITE)
-    whole = nearest(number * times)
+    whole = nearest(units_of(number))
     judge_range(whole, allowed)
     return whole
 
 
 def live(temperature_bits, pressure_bits):
     """01: "Order: temperature not finite, temperature range, then pressure likewise"."""
-    tenths = reading(temperature_bits, 10, ranges.TEMPERATURE)
-    return tenths, reading(pressure_bits, 1, ranges.PRESSURE)
+    tenths = reading(temperature_bits, tenths_of, ranges.TEMPERATURE)
+    return tenths, reading(pressure_bits, psi_of, ranges.PRESSURE)
 
 
 def panel_temperature(tenths):

@@ -1,4 +1,4 @@
-"""The numbers given back (01, Numbers given back; 02 adds 30 to 33)."""
+"""The numbers given back (01, Numbers given back; 02 adds 30 to 35)."""
 
 
 class Refused(Exception):
@@ -37,3 +37,5 @@ BOOK_NOT_EMPTY = 30
 FIGURES_OUTSIDE_RULES = 31
 TABLE_RECORD = 32
 NO_SUCH_PAIR = 33
+FAULT_CODE = 34
+WRONG_KIND = 35

@@ -1,6 +1,6 @@
 """The C face: the header as C11 and C++17, its declarations against the Rattle source, every function through the linked archive
-beside the line program, every number of the panel beside the reference and back, rounded quotients beside whole numbers of any length, and
-the examples.
+beside the line program, every number of the panel beside the reference and back, channels that no line can say, rounded quotients beside
+whole numbers of any length, and the examples.
 
 Run: python3 tests/c_face.py [--lines N] [--seed S]     once `rt check endakuro` has built the line program
 """
@@ -26,7 +26,9 @@ LINE_PROGRAM = [str(ROOT / "tests" / "endakuro")]
 # Entries of the line program that the C face has not.
 OTHERS = {"spread"}
 RUN = str(ROOT / "tests" / "c" / "run")
-EXAMPLES = ("skid", "round_trips", "agreement", "compressibility")
+EXAMPLES = ("skid", "round_trips", "agreement", "compressibility", "transmitters")
+# Patterns of a single's bits that are no finite number, in each of the three kinds that carry one.
+NOT_FINITE = 3 * 2**24
 
 ONLY_HEADER = b"#include <endakuro.h>\n"
 STRICT = ["-Wall", "-Wextra", "-Wpedantic", "-Werror"]
@@ -100,13 +102,25 @@ def panel(program):
     return not different
 
 
+def counted(name, tried):
+    """What a program that tries by itself all that it has says at its end; the first differences stand before it."""
+    *apart, said = answers_of(build(name, f"tests/c/{name}.c"), b"")
+    for difference in apart:
+        print(difference.decode())
+    print(f"{tried}: {said.decode()}")
+    return said
+
+
 def way_back():
     """Every temperature shown with every pressure shown is read live as the two numbers that the panel was given."""
-    *apart, said = answers_of(build("way_back", "tests/c/way_back.c"), b"")
-    for pair in apart:
-        print(pair.decode())
-    print(f"the panel read live: {said.decode()}")
+    said = counted("way_back", "the panel read live")
     return said == b"%d pairs; differences 0" % prod(len(in_range(entry)) for entry in SPANS)
+
+
+def channels():
+    """Kinds outside the four and fault codes of more than a byte, which no line has, and all that is not finite."""
+    calls, _, different = counted("channels", "channels that no line can say").partition(b" calls; differences ")
+    return int(calls) > NOT_FINITE and int(different) == 0
 
 
 def quotients(seed):
@@ -135,13 +149,13 @@ def example(name):
 
 def main():
     options = argparse.ArgumentParser(description="Test the C face.")
-    options.add_argument("--lines", type=int, default=56_000)
+    options.add_argument("--lines", type=int, default=66_000)
     options.add_argument("--seed", type=int, default=2)
     chosen = options.parse_args()
     try:
         held = [header()]
         program = build("lines", "tests/c/lines.c")
-        held += [lines(program, chosen.lines, chosen.seed), panel(program), way_back(), quotients(chosen.seed)]
+        held += [lines(program, chosen.lines, chosen.seed), panel(program), way_back(), channels(), quotients(chosen.seed)]
         held += [example(name) for name in EXAMPLES]
     except Stopped as stop:
         print(f"C face: stopped, {stop}")

@@ -5,8 +5,8 @@ Run: python3 tests/compare.py --program CMD [--lines N] [--seed S] [--told DIR]
      python3 tests/compare.py --ahead DIR     the reference's answers alone, kept for --told DIR
 
 Ends with 0 exactly when no answer differs and every entry and number was reached, each place where
-an equilibrium pressure can stand, every kind of bidirectional draw, look-up and book call, and all
-that the panel can be shown.
+an equilibrium pressure can stand, every kind of bidirectional draw, look-up, channels and book
+call, channels beside `live`, and all that the panel can be shown.
 """
 
 import argparse
@@ -15,8 +15,10 @@ from collections import Counter
 from concurrent.futures import ThreadPoolExecutor
 from itertools import islice
 
+import channel_kinds
 import draw_kinds
 import lookup_kinds
+from beside_live import BesideLive
 from book_kinds import BookKinds
 from cases import cases
 from cases.grammar import NAMES
@@ -45,6 +47,7 @@ REACHES = {
     "trips": (OK, 1, 3, 5, 2, 6),
     "ticket": (OK, 10, 11),
     "live": (OK, 12, 13),
+    "channels": (OK, 34, 35, 12, 13),
     "panel_temperature": (OK, 13),
     "panel_pressure": (OK, 13),
     "look_up": (OK, 1, 32, 13, 33),
@@ -63,7 +66,11 @@ REACHES = {
 
 
 # What a line of these entries reaches is told from the line alone.
-TOLD_BY_LINE = {entry: kinds for kinds in (draw_kinds, lookup_kinds) for entry in kinds.ENTRIES}
+TOLD_BY_LINE = {
+    entry: kinds
+    for kinds in (draw_kinds, lookup_kinds, channel_kinds)
+    for entry in kinds.ENTRIES
+}
 
 # What each entry answers where P is below Pe.
 BELOW_EQUILIBRIUM = {"cpl": 5, "ticket": 10, "prove": 5, "runs": NONE, "run": 5}
@@ -102,6 +109,7 @@ class Comparison:
         self.kinds = Counter()
         self.booked = BookKinds()
         self.shown = Shown()
+        self.beside_live = BesideLive()
         self.differences = 0
 
     def batch(self, lines, given):
@@ -134,6 +142,7 @@ class Comparison:
         self.reached[entry, what] += 1
         self.booked.take(entry, line, what, answer)
         self.shown.take(entry, line, answer)
+        self.beside_live.take(entry, line, answer)
         if what != BAD:
             for side, where in standings(entry, line, record_of(answer)):
                 self.stood[entry, side, where, what] += 1
@@ -178,6 +187,7 @@ class Comparison:
         ]
         missing += self.booked.missing()
         missing += self.shown.missing()
+        missing += self.beside_live.missing()
         return missing
 
     def summary(self):

@@ -1,5 +1,6 @@
 """The figures to hold against (01), 000's propane, 003's bidirectional prover, the ends of what
-shippers may agree on and of what can be looked up (02): each through the line program.
+shippers may agree on, of what can be looked up and of what transmitters send (02): each through the
+line program.
 
 Run: python3 tests/figures.py [--program CMD]
 """
@@ -8,6 +9,17 @@ import argparse
 import sys
 from itertools import islice, product
 
+from cases.channel_shapes import (
+    CELSIUS,
+    FAHRENHEIT,
+    PRESSURE,
+    Channel,
+    Channels,
+    celsius,
+    fahrenheit,
+    fault,
+    psi,
+)
 from cases.lookup_shapes import GRAVITIES, TEMPERATURES, LookUp, Row
 from cases.plain import plain_job
 from cases.shapes import Draw, Fill, Job, Prover, Report, Run, line
@@ -217,6 +229,65 @@ def look_up_faults():
     yield "13 before 33", looked_up(2003, 199), "refused 13 0"
 
 
+def sent(first, second):
+    return Channels(first, second).line
+
+
+def celsius_figures():
+    """"-40 °C gives -400, which is 13"; the others by hand, 320 + 18c in tenths of °F, where a half
+    goes away from zero in Fahrenheit."""
+    yield "-40 °C", sent(celsius(-40.0), psi(0.0)), "refused 13 0"
+    for degrees, tenths in (
+        (0.0, 320),
+        (-0.0, 320),
+        (22.5, 725),
+        (37.0, 986),
+        (93.25, 1999),  # 1998.5
+        (0.25, 325),  # 324.5
+        (-0.25, 316),  # 315.5, and -4.5 and 320 would be 315
+        (-17.5, 5),
+        (-17.75, 1),  # 0.5
+        (-18.0, -4),
+        (-18.25, -9),  # -8.5
+        (-28.75, -198),  # -197.5
+    ):
+        yield f"{degrees} °C", sent(celsius(degrees), psi(40.0)), f"ok {tenths} 40"
+    # -20.05 °F and 200.05 °F lie between these
+    for bits_in, tenths in ((0xC1E75555, -200), (0x42BAB8E3, 2000)):
+        yield "at an end", sent(Channel(CELSIUS, bits_in), psi(1500.0)), f"ok {tenths} 1500"
+        yield "past it", sent(Channel(CELSIUS, bits_in + 1), psi(1500.0)), "refused 13 0"
+    yield "100 °C", sent(celsius(100.0), psi(0.0)), "refused 13 0"
+
+
+NAN = 0x7FC00000
+
+
+def channel_figures():
+    """A Fahrenheit channel and a pressure as in 01; "the first channel's 34, 35, 12, 13, then the
+    second's"."""
+    yield "73.25 °F", sent(fahrenheit(73.25), psi(0.0)), "ok 733 0"
+    yield "-0.25 °F", sent(fahrenheit(-0.25), psi(-0.0)), "ok -3 0"
+    yield "-0.4 psi", sent(celsius(22.5), psi(-0.4)), "ok 725 0"
+    first = (
+        ("a fault code", fault(0), 34),
+        ("a pressure first", Channel(PRESSURE, NAN), 35),
+        ("no temperature", Channel(CELSIUS, NAN), 12),
+        ("a temperature out of range", fahrenheit(200.1), 13),
+    )
+    second = (
+        ("a fault code", fault(255), 34),
+        ("a temperature second", Channel(FAHRENHEIT, NAN), 35),
+        ("no pressure", Channel(PRESSURE, NAN), 12),
+        ("-0.5 psi", psi(-0.5), 13),
+    )
+    for name, channel, number in first:
+        yield name, sent(channel, psi(40.0)), f"refused {number} 0"
+    for name, channel, number in second:
+        yield name, sent(celsius(22.5), channel), f"refused {number} 0"
+    for (name, one, number), (later, other, _) in product(first, second):
+        yield f"{name}, before {later}", sent(one, other), f"refused {number} 0"
+
+
 PARTS = (
     factor_figures,
     run_figure,
@@ -231,6 +302,8 @@ PARTS = (
     look_up_figures,
     look_up_ends,
     look_up_faults,
+    celsius_figures,
+    channel_figures,
 )
 
 

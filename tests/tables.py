@@ -13,15 +13,17 @@ from decimal import ROUND_HALF_UP, Decimal
 from itertools import cycle, islice, product
 
 from cases.arithmetic import half_up
+from cases.channel_shapes import CELSIUS, Channel, Channels, psi
 from cases.lookup_shapes import GRAVITIES, TEMPERATURES, LookUp, Row, beside
 from cases.shapes import Draw, Fill, Job, Prover, Run, Ticket, line
+from cases.singles import bits
 from programs import REFERENCE, Stopped, answers_of, command
 from worked import WorkedDraws, fill_of, nearest_units, plain_fill, rows, units
 
 FILES = (
     "cts_tables cts_points cps_table cps_points cpl_points ccts_points ctdw_points"
     " fills passes trips draws barrels provings proving_runs tickets repeatability"
-    " half_degrees compressibilities"
+    " half_degrees compressibilities celsius"
 ).split()
 
 # By a prover's type the entry that answers its base volume, and the one that answers what that is
@@ -329,6 +331,13 @@ def compressibilities(tables):
         asked = (units(row[name], 1) for name in PAIR)
         text = LookUp(*asked, entries_around(*entry, factor)).line
         tables.answered(row["place"], "F", row["printed_compressibility"], text, 2, 3)
+
+
+def celsius(tables):
+    for row in rows("celsius"):
+        channel = Channel(CELSIUS, bits(float(row["celsius"])))
+        text = Channels(channel, psi(0.0)).line
+        tables.answered(row["place"], "temperature", row["printed_fahrenheit"], text, 0, 1)
 
 
 def main():

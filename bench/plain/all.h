@@ -1,5 +1,6 @@
 // Every job, under the including file's NAMED and JUDGING.
 #include "book.h"
+#include "channels.h"
 #include "draw.h"
 #include "live.h"
 #include "lookup.h"

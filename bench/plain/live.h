@@ -1,5 +1,6 @@
 // Live readings (01, 'Live readings'). A single times 10 is exact in a double, and so is the half added to
 // it where it matters: only a number below 2^-24, which goes to 0 either way, could lose bits.
+#pragma once
 #include "rounding.h"
 #include <endakuro.h>
 

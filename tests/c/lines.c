@@ -38,11 +38,26 @@ static int16_t signed_number(void) {
     return (int16_t)strtol(next_word(), NULL, 10);
 }
 
-static float single(void) {
-    uint32_t bits = (uint32_t)strtoul(next_word(), NULL, 16);
+static uint32_t bits_of_single(void) {
+    return (uint32_t)strtoul(next_word(), NULL, 16);
+}
+
+static float single_of(uint32_t bits) {
     float value;
     memcpy(&value, &bits, sizeof value);
     return value;
+}
+
+static EndakuroChannel channel(void) {
+    static const char *const kinds[] = {[ENDAKURO_FAHRENHEIT] = "fahrenheit",
+                                        [ENDAKURO_CELSIUS] = "celsius",
+                                        [ENDAKURO_PRESSURE] = "pressure",
+                                        [ENDAKURO_FAULT] = "fault"};
+    EndakuroChannel read = {.kind = ENDAKURO_FAHRENHEIT};
+    const char *name = next_word();
+    while (read.kind < ENDAKURO_FAULT && strcmp(kinds[read.kind], name) != 0) read.kind++;
+    read.bits = read.kind == ENDAKURO_FAULT ? number() : bits_of_single();
+    return read;
 }
 
 static int digit(char c) {
@@ -240,10 +255,23 @@ static void ticket(void) {
     tell(r.number, r.record, VALUES(r.factor, r.gross, r.net));
 }
 
-static void live(void) {
-    float temperature = single();
-    EndakuroLive r = endakuro_live(temperature, single());
+static void tell_live(EndakuroLive r) {
     tell(r.number, r.record, VALUES(r.tenths, r.psi));
+}
+
+// The same two singles, tagged as what they are, are the same reading.
+static void live(void) {
+    EndakuroChannel temperature = {.kind = ENDAKURO_FAHRENHEIT, .bits = bits_of_single()};
+    EndakuroChannel pressure = {.kind = ENDAKURO_PRESSURE, .bits = bits_of_single()};
+    EndakuroLive r = endakuro_live(single_of(temperature.bits), single_of(pressure.bits));
+    EndakuroLive tagged = endakuro_channels(temperature, pressure);
+    require(memcmp(&r, &tagged, sizeof r) == 0, "another reading of the two channels");
+    tell_live(r);
+}
+
+static void channels(void) {
+    EndakuroChannel temperature = channel();
+    tell_live(endakuro_channels(temperature, channel()));
 }
 
 // The single by its bits: a refusal's are those of +0.
@@ -384,6 +412,7 @@ static const struct {
     {"trips", trips},
     {"ticket", ticket},
     {"live", live},
+    {"channels", channels},
     {"panel_temperature", panel_temperature},
     {"panel_pressure", panel_pressure},
     {"look_up", look_up},

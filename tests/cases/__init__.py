@@ -7,6 +7,7 @@ from . import (
     agreements,
     book_days,
     books,
+    channels,
     draws,
     factors,
     grammar,
@@ -35,6 +36,7 @@ AIMED = (
     trips,
     agreements,
     lookups,
+    channels,
 )
 
 
@@ -55,6 +57,7 @@ def by_chance(rng):
         (6, reports),
         (6, spreads),
         (6, lookups),
+        (8, channels),
         (12, grammar),
     )
     weights = [weight for weight, _ in parts]

@@ -1,8 +1,21 @@
 """Cases of the grammar: operands at the ends of their types, malformed, missing and left over;
 damaged lines, wild bytes and long lines."""
 
-from . import draws, factors, lookups, panels, provings, reports, singles, spreads, tickets, trips
+from . import (
+    channels,
+    draws,
+    factors,
+    lookups,
+    panels,
+    provings,
+    reports,
+    singles,
+    spreads,
+    tickets,
+    trips,
+)
 from .book_shapes import NEW, load
+from .channel_shapes import Channels, celsius, fahrenheit, fault, psi
 from .lookup_shapes import ROW, LookUp, Row
 from .plain import plain_trips
 from .shapes import Draw, Fill, Job, Prover, Report, Run, Ticket, line
@@ -11,7 +24,7 @@ LONGEST = 524_288
 
 NAMES = (
     "cts cps cpl prove runs run draw fill passes bidirectional trips ticket live"
-    " panel_temperature panel_pressure look_up spread write read"
+    " channels panel_temperature panel_pressure look_up spread write read"
     " request withdraw take book set figures load empty"
 ).split()
 
@@ -38,6 +51,8 @@ def examples():
         out_and_back.trips,
         Ticket().line,
         line("live", "42928000", "42200000"),
+        Channels(celsius(22.5), psi(40.0)).line,
+        Channels(fahrenheit(73.25), fault(7)).line,
         line("panel_temperature", 733),
         line("panel_temperature", -5),
         line("panel_pressure", 40),
@@ -183,6 +198,7 @@ def names():
     # a name of two words is one word of the line
     yield from (b"panel 733", b"panel_ 733", b"panel temperature 733", b"panel-temperature 733")
     yield from (b"panel_temperature_733", b"panel_temperature panel_temperature 733")
+    yield from (b"channel celsius 0 fault 0", b"channels_celsius 41b40000 pressure 42200000")
     yield from (b"look up 0 0 -", b"look_ up 0 0 -", b"look-up 0 0 -", b"lookup 0 0 -")
     yield from (b"help", b"quit", b"ok", b"bad line", b"refused 1 0", b"-", b"0", b"\xff", b"?")
 
@@ -236,6 +252,7 @@ def good_line(rng):
             reports.by_chance,
             spreads.by_chance,
             lookups.by_chance,
+            channels.by_chance,
             lambda of: of.choice(examples()),
         )
     )(rng)

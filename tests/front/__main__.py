@@ -12,7 +12,7 @@ NAMES = (
     "examples", "badfiles", "faultlines", "spellings", "entryfiles", "damaged", "ranges", "equilibrium", "reports",
     "spreads", "readback", "outputs", "losses", "worksheets", "workbooks", "halves", "plots", "prints", "machines",
     "verifying", "pagefolders", "reworks", "obstacles", "sessions", "keeping", "newfiles", "building", "helping",
-    "readme", "sums", "panels", "trips", "agreements", "lookups", "lookupjobs",
+    "readme", "sums", "panels", "channels", "channelfaults", "trips", "agreements", "lookups", "lookupjobs",
 )  # fmt: skip
 
 

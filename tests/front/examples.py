@@ -2,6 +2,8 @@
 
 from harness import ROOT, Tally, called, run
 
+from front import refusals
+
 FOLDER = ROOT / "examples"
 
 # What each accepted example must show.
@@ -75,6 +77,11 @@ SHOWN = {
         "Temperature               73.3000030517578125 °F (single 4292999a)",
         "Pressure                  40 psi (single 42200000)",
     ),
+    "live-celsius.toml": (
+        "Temperature               72.5 °F, from 22.5 °C (single 41b40000)\n",
+        "Pressure                  40 psi, from 40 psi (single 42200000)\n",
+        "Temperature               72.5 °F (single 42910000)\n",
+    ),
     "panel.toml": (
         "73.3 °F, shown as 73.3000030517578125 °F (single 4292999a)",
         "40 psi, shown as 40 psi (single 42200000)",
@@ -105,6 +112,7 @@ COMMANDS = {
     "printed-entry.csv": "look-up",
     "table-for-trying.csv": "look-up",
     "live.toml": "live",
+    "live-celsius.toml": "live",
     "panel.toml": "panel",
     "report-7.record": "read",
     "book.txt": "book",
@@ -122,7 +130,7 @@ NUMBERS = {
     "bidirectional": {1, 2, 3, 5, 6, 9},
     "ticket": {1, 10, 11, 13, 32, 33},
     "lookup": {1, 13, 32, 33},
-    "live": {12, 13},
+    "live": {12, 13, 34, 35},
     "panel": {13},
     "read": {14, 15},
     "book": {20, 21, 22, 23, 24, 25, 26, 27, 30, 31},
@@ -138,6 +146,7 @@ WORDS = {
     22: "number zero", 23: "already waiting", 24: "ceiling reached",
     25: "has its reserve or more and commons full", 26: "withdrawn number not waiting", 27: "nothing to take",
     30: "book not empty", 31: "figures outside the rules", 32: "faulty or disordered record", 33: "no such pair",
+    34: "fault code from a transmitter", 35: "channel of the wrong kind",
 }  # fmt: skip
 SAID, ASKED = "# refused: ", "# asked: "
 RECORD_WORDS = {
@@ -195,6 +204,7 @@ def refused(tally):
             # Only where every run or pass has its figures is there a page to show.
             tally.same(bool(out), number == 9, f"{path.name}: a page")
     tally.same(given, NUMBERS, "refusals that have an example")
+    tally.same((refusals.WORDS, set().union(*NUMBERS.values())), (WORDS, set(WORDS)), "the table of numbers")
 
 
 def test():

@@ -32,7 +32,10 @@ WORDS = {
         *("\n  profile ", "unidirectional, 3 to 20 passes, where it is left out", "bidirectional, 6 to 20 passes"),
     ),
     "ticket": ("--worksheet OUT", "--html OUT", "[ticket]", "[compressibility]", "\n  table  "),
-    "live": ("--html OUT", "[live]", "nan or inf", "bits", "panel"),
+    "live": (
+        *("--html OUT", "[live]", "nan or inf", "bits", "panel", "temperature = { celsius = 22.5 }"),
+        *("\n  fahrenheit, celsius  ", fields.ABOUT_IN_CELSIUS, "\n  fault  ", fields.FAULT.range),
+    ),
     "panel": ("--html OUT", "[panel]", "nearest", "exactly", "bits"),
     "read": ("RECORD", "--hex BYTES"),
     "look-up": (

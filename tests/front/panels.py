@@ -127,7 +127,8 @@ def refused(tally, folder):
     for path in sorted((EXAMPLES / "refusals").glob("live-*.toml")):
         with Watched() as program:
             works.work(jobs.read(str(path)), program)
-            tally.same(set(program.asked), {"live"}, f"{path.name}: asked")
+            line = "channels" if " = {" in path.read_text() else "live"
+            tally.same(set(program.asked), {line}, f"{path.name}: asked")
         status, text, _ = called("live", path, "--json", "--html", out, "--force")
         told = json.loads(text)
         tally.same((status, "panel" in told, "result" in told), (1, False, False), f"{path.name}: JSON")

@@ -16,6 +16,7 @@ EXAMPLES = ROOT / "examples"
 PAPERS = {"Letter": "(letter)", "A4": "(A4)"}
 # Examples that are called as their kind is.
 SHORT = ("ticket", "live", "panel")
+FURTHER = ("looked-up", "ticket-looked-up", "live-celsius")
 # So many jobs are printed on both.
 BOTH = 7
 # Letters of 5 points, in millimetres, also where runs, fills and texts are at their most.
@@ -46,7 +47,7 @@ def figures_of(text):
 
 def jobs(folder):
     """Jobs of each kind: plain, refused, the widest, the longest."""
-    for name in ("figure-5", "figure-6", "water-draw", "bidirectional-draw", *SHORT, "looked-up", "ticket-looked-up"):
+    for name in ("figure-5", "figure-6", "water-draw", "bidirectional-draw", *SHORT, *FURTHER):
         yield EXAMPLES / f"{name}.toml"
     yield widest_look_up(folder)
     for name in ("prove-09-runs-drift", "draw-09-passes-drift", "bidirectional-09-trips-drift"):

@@ -81,6 +81,7 @@ def figures_of(tally, rows):
          "first used": "1", "out of": "6", "limit (%)": "0.02", "spread (%)": "0.009", "meter factor": ""}),
         ("ticket.toml", {"gross (bbl)": "495.65", "net (bbl)": "493.17", "meter factor": "1.0002", "request": ""}),
         ("live.toml", {"temperature (°F)": "73.3", "pressure (psi)": "40"}),
+        ("live-celsius.toml", {"outcome": "accepted", "temperature (°F)": "72.5", "pressure (psi)": "40"}),
         ("panel.toml", {"job": "panel", "outcome": "accepted", "temperature (°F)": "73.3", "pressure (psi)": "40"}),
         ("panel-13-too-hot.toml", {"temperature (°F)": "200.1", "pressure (psi)": "40"}),
         ("bad.toml", {"outcome": "bad file", "job": "",

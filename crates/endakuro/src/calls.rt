@@ -213,16 +213,25 @@ fn say_live(tenths: i16, psi: u16, out: &mut [u8]) -> usize {
     add_numbers(&[psi as u64], out, next)
 }
 
+fn say_reading(live: Live, out: &mut [u8]) -> usize {
+    match live {
+        Live::Whole { tenths, psi } => say_live(tenths, psi, out),
+        Live::Refused(refusal) => refuse(refusal, out),
+    }
+}
+
 fn answer_live(line: &[u8], out: &mut [u8]) -> usize {
     let reading = Reading {
         temperature: operands::single_at(line, 1),
         pressure: operands::single_at(line, 2),
     };
-    let whole = live::convert(reading);
-    match whole {
-        Live::Whole { tenths, psi } => say_live(tenths, psi, out),
-        Live::Refused(refusal) => refuse(refusal, out),
-    }
+    say_reading(live::convert(reading), out)
+}
+
+fn answer_channels(line: &[u8], out: &mut [u8]) -> usize {
+    let temperature = operands::channel_at(line, 1);
+    let pressure = operands::channel_at(line, 3);
+    say_reading(live::channels::convert(temperature, pressure), out)
 }
 
 fn say_shown(panel: Panel, out: &mut [u8]) -> usize {
@@ -365,6 +374,7 @@ fn answer_numbers(entry: usize, line: &[u8], out: &mut [u8]) -> usize {
         24 => answer_spread(line, out),
         25 => answer_panel_temperature(line, out),
         26 => answer_panel_pressure(line, out),
+        27 => answer_channels(line, out),
         _ => answers::say_bad(out),
     }
 }

@@ -7,6 +7,7 @@ use factors::Pipe;
 use factors::Places;
 use factors::Prover;
 use lines::operands::number_at;
+use live::channels::Channel;
 use numerals::Signed;
 
 pub(crate) fn u8_at(line: &[u8], n: usize) -> u8 {
@@ -44,17 +45,40 @@ pub(crate) fn places_at(line: &[u8], n: usize) -> Places {
     }
 }
 
-// A NaN has many patterns, and no number's: any will do.
-fn single_of(bits: u32) -> f32 {
-    let magnitude = bits % 2147483648;
-    if 2139095040 < magnitude {
-        return 0.0 / 0.0;
-    }
-    f32::from_bits(bits)
+pub(crate) fn single_at(line: &[u8], n: usize) -> f32 {
+    live::channels::from_bits(hex::read_single(words::word(line, n)))
 }
 
-pub(crate) fn single_at(line: &[u8], n: usize) -> f32 {
-    single_of(hex::read_single(words::word(line, n)))
+// The place of a word among as many as are known, or their count.
+pub(crate) fn find_word(word: &[u8], known: &[u8], count: usize) -> usize {
+    let mut i = 0;
+    while i < count {
+        if check::same(word, words::word(known, i)) {
+            return i;
+        }
+        i += 1;
+    }
+    count
+}
+
+// 4 where the word names no kind of channel.
+pub(crate) fn kind_at(line: &[u8], n: usize) -> usize {
+    find_word(
+        words::word(line, n),
+        b"fahrenheit celsius pressure fault",
+        4,
+    )
+}
+
+pub(crate) fn channel_at(line: &[u8], n: usize) -> Channel
+    requires { ⌜ n ≤ 8 ⌝ }
+{
+    match kind_at(line, n) {
+        0 => Channel::Fahrenheit(single_at(line, n + 1)),
+        1 => Channel::Celsius(single_at(line, n + 1)),
+        2 => Channel::Pressure(single_at(line, n + 1)),
+        _ => Channel::Fault(u8_at(line, n + 1)),
+    }
 }
 
 pub(crate) fn metal_at(line: &[u8], n: usize) -> Metal

@@ -11,3 +11,4 @@ pub mod Tenths
 pub mod Shown
 pub mod Units
 pub mod NearestSingle
+pub mod Taken

@@ -3,3 +3,4 @@ pub mod Rounding
 pub mod Live
 pub mod Word
 pub mod Panel
+pub mod Channels

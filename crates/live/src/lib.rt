@@ -8,6 +8,7 @@ ghost use Rattle.live.specs.Live.{psiOk, told, liveOf};
 use refusals::Refusal;
 use refusals::Verdict;
 
+pub mod channels;
 pub mod panel;
 mod single;
 

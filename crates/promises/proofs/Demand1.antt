@@ -13,7 +13,7 @@ use lib.Dec.{leb, ltb, eqb}
 use lib.IntN.{ℤ}
 use lib.Ieee.{Float}
 use lib.ListN.{length}
-use Rattle.refusals.specs.Told.{Told, refused, leftBy}
+use Rattle.refusals.specs.Told.{Told, done, refused, leftBy}
 use Rattle.ranges.specs.Table.{temperatureOk, pressureOk, kFactorOk, limitOk, volumeOk, runFactorOk, fillsOk, entriesOk}
 use Rattle.octets.specs.Records.{recordsIn, areRecords}
 use Rattle.ranges.specs.Within.{within}
@@ -46,8 +46,11 @@ use Rattle.draw.specs.declared.Profile.{Profile}
 use Rattle.ticket.specs.Ranges.{ticketOk}
 use Rattle.ticket.specs.Answers.{ticketOf}
 use Rattle.ticket.specs.declared.Ticket.{Ticket}
-use Rattle.live.specs.Live.{wholeOf, psiOk, liveOf}
+use Rattle.live.specs.Live.{wholeOf, singleOf, temperatureOf, psiOk, pressureOf, inOrder, liveOf}
+use Rattle.live.specs.Channels.{celsiusOf, temperatureChannelOf, pressureChannelOf, channelsOf}
 use Rattle.live.specs.Panel.{panelTemperatureOf, panelPressureOf}
+use Rattle.live.specs.declared.channels.Channel.{Channel}
+use Rattle.live.specs.declared.channels.Channel.the-variants.{Fahrenheit, Celsius, Pressure, Fault}
 use Rattle.live.proofs.Answers.{singleFault, live-judged}
 use Rattle.lookup.specs.HalfDegree.{halfDegree, halfDegreeSigned}
 use Rattle.lookup.specs.Table.{recordOk as entryIsOk, orderOk}
@@ -62,7 +65,7 @@ use Rattle.book.specs.Calls.{callFault, hasRoom, entryFault, requestFault, requ
 use Rattle.book.specs.declared.Book.{Book}
 use Rattle.book.specs.declared.Figures.{Figures as BookFigures}
 use lib.Ieee.Scale.{finite}
-use Rattle.promises.specs.Numbers.{settingNumbers, liquidNumbers, jobNumbers, provingNumbers, recordNumbers, runNumbers, drawNumbers, passesNumbers, fillNumbers, ticketNumbers, liveNumbers, panelNumbers, lookUpNumbers, requestNumbers, withdrawalNumbers, takeNumbers, agreementNumbers, commonsNumbers, readNumbers, writeNumbers}
+use Rattle.promises.specs.Numbers.{settingNumbers, liquidNumbers, jobNumbers, provingNumbers, recordNumbers, runNumbers, drawNumbers, passesNumbers, fillNumbers, ticketNumbers, liveNumbers, channelNumbers, panelNumbers, lookUpNumbers, requestNumbers, withdrawalNumbers, takeNumbers, agreementNumbers, commonsNumbers, readNumbers, writeNumbers}
 use Rattle.promises.specs.Ending.{markedOf, recordOk, refusalOk, Ends}
 use Rattle.promises.proofs.Endings.{Finds, by-demand, by-demandAt, by-orElse, by-scan, by-unless, by-judged, by-nine, as-told}
 
@@ -191,20 +194,48 @@ draw-ends profile prover s =
     let of = of-records (recordsIn 32 s) in
     by-unless (draw-finds profile prover s refl refl of of of) (by-nine (firstGroup 2 3 (volumesOf profile prover s)) _ refl)
 
--- ---- 'A ticket: 10, 11.' A live reading: 12, 13. The panel: 13.
+-- ---- 'A ticket: 10, 11.' A live reading: 12, 13. Two channels: 34, 35, 12, 13. The panel: 13.
 
 pub ticket-ends : (t : Ticket) → Ends ticketNumbers 0 0 (ticketOf t)
 unfolding ticketOf isOneOf markedOf recordOk refusalOk
 ticket-ends t = by-judged _ (by-orElse (by-demand (ticketOk t) 10 refl) (by-demand (leb (t .opening) (t .closing)) 11 refl))
 
-single-finds : (inRange : ℤ → Bool) (z : ℤ) (x : Float) → Finds liveNumbers 0 0 (singleFault inRange z x)
-unfolding isOneOf markedOf recordOk refusalOk
-single-finds inRange z x = by-orElse (by-demand (finite x) 12 refl) (by-demand (inRange z) 13 refl)
+single-finds : {numbers : List ℕ} → refusalOk numbers 0 0 12 0 ≡ true → refusalOk numbers 0 0 13 0 ≡ true → (inRange : ℤ → Bool) (z : ℤ) (x : Float) → Finds numbers 0 0 (singleFault inRange z x)
+single-finds twelve thirteen inRange z x = by-orElse (by-demand (finite x) 12 twelve) (by-demand (inRange z) 13 thirteen)
 
 pub live-ends : (temperature pressure : Float) → Ends liveNumbers 0 0 (liveOf temperature pressure)
+unfolding isOneOf markedOf recordOk refusalOk
 live-ends temperature pressure =
     as-told (live-judged temperature pressure)
-    (by-judged _ (by-orElse (single-finds temperatureOk (wholeOf 0 10 temperature) temperature) (single-finds psiOk (wholeOf 0 1 pressure) pressure)))
+    (by-judged _ (by-orElse (single-finds refl refl temperatureOk (wholeOf 0 10 temperature) temperature) (single-finds refl refl psiOk (wholeOf 0 1 pressure) pressure)))
+
+carried-ends : (inRange : ℤ → Bool) (o k : ℕ) (x : Float) → Ends channelNumbers 0 0 (singleOf inRange o k x)
+unfolding singleOf isOneOf markedOf recordOk refusalOk
+carried-ends inRange o k x = by-judged _ (single-finds refl refl inRange (wholeOf o k x) x)
+
+temperature-channel-ends : (channel : Channel) → Ends channelNumbers 0 0 (temperatureChannelOf channel)
+unfolding temperatureChannelOf temperatureOf celsiusOf isOneOf markedOf recordOk refusalOk
+temperature-channel-ends (Fahrenheit x) = carried-ends temperatureOk 0 10 x
+temperature-channel-ends (Celsius x) = carried-ends temperatureOk 320 18 x
+temperature-channel-ends (Pressure x) = record { gives = refl }
+temperature-channel-ends (Fault code) = record { gives = refl }
+
+pressure-channel-ends : (channel : Channel) → Ends channelNumbers 0 0 (pressureChannelOf channel)
+unfolding pressureChannelOf pressureOf isOneOf markedOf recordOk refusalOk
+pressure-channel-ends (Fahrenheit x) = record { gives = refl }
+pressure-channel-ends (Celsius x) = record { gives = refl }
+pressure-channel-ends (Pressure x) = carried-ends psiOk 0 1 x
+pressure-channel-ends (Fault code) = record { gives = refl }
+
+in-order-ends : (temperature pressure : Told ℤ) → Ends channelNumbers 0 0 temperature → Ends channelNumbers 0 0 pressure → Ends channelNumbers 0 0 (inOrder temperature pressure)
+in-order-ends (refused number at) pressure here next = record { gives = here .gives }
+in-order-ends (done tenths) (refused number at) here next = record { gives = next .gives }
+in-order-ends (done tenths) (done psi) here next = record { gives = tt }
+
+pub channels-end : (temperature pressure : Channel) → Ends channelNumbers 0 0 (channelsOf temperature pressure)
+unfolding channelsOf
+channels-end temperature pressure =
+    in-order-ends (temperatureChannelOf temperature) (pressureChannelOf pressure) (temperature-channel-ends temperature) (pressure-channel-ends pressure)
 
 pub panel-temperature-ends : (tenths : ℤ) → Ends panelNumbers 0 0 (panelTemperatureOf tenths)
 unfolding panelTemperatureOf isOneOf markedOf recordOk refusalOk

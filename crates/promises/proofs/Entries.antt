@@ -6,7 +6,7 @@ use Rattle.promises.specs.Arguments.{first, second, third, fourth, fifth
 use Rattle.promises.specs.Entries.{Entries}
 use Rattle.promises.proofs.Endings.{as-told}
 use Rattle.promises.proofs.Demand1.{cts-ends, cps-ends, cpl-ends, worked-ends, shown-ends, job-ends, none-when-refused, write-ends, read-ends, fill-ends, volumes-end, draw-ends}
-use Rattle.promises.proofs.Demand1.{ticket-ends, live-ends, panel-temperature-ends, panel-pressure-ends, look-up-ends, request-ends, withdrawal-ends, take-ends, setting-ends, commons-end, left-as-found, request-leaves-book, withdrawal-leaves-book, take-leaves-book, setting-leaves-book}
+use Rattle.promises.proofs.Demand1.{ticket-ends, live-ends, channels-end, panel-temperature-ends, panel-pressure-ends, look-up-ends, request-ends, withdrawal-ends, take-ends, setting-ends, commons-end, left-as-found, request-leaves-book, withdrawal-leaves-book, take-leaves-book, setting-leaves-book}
 
 pub entries : Entries
 entries =
@@ -27,6 +27,7 @@ entries =
       draw-entry = λ κ a r x p. as-told p (draw-ends (first a) (second a) (third a .now));
       ticket-entry = λ κ a r x p. as-told p (ticket-ends (first a));
       convert-entry = λ κ a r x p. as-told p (live-ends (first a .temperature) (first a .pressure));
+      convert-channels-entry = λ κ a r x p. as-told p (channels-end (first a) (second a));
       show-temperature-entry = λ κ a r x p. as-told p (panel-temperature-ends (first a));
       show-pressure-entry = λ κ a r x p. as-told p (panel-pressure-ends (first a));
       look-up-entry = λ κ a r x p. as-told p (look-up-ends (first a) (second a) (third a .now));

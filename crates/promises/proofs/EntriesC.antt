@@ -15,7 +15,7 @@ use Rattle.draw.specs.Profile.{volumesOf}
 use Rattle.draw.specs.Answers.{countOf, heldFor}
 use Rattle.draw.specs.declared.Profile.{Profile}
 use Rattle.draw.specs.declared.Profile.the-variants.{Unidirectional, Bidirectional}
-use Rattle.api.specs.Given.{pipeBy, liquidBy, proverBy, factorsBy, ticketBy}
+use Rattle.api.specs.Given.{pipeBy, liquidBy, proverBy, factorsBy, ticketBy, temperatureBy, pressureBy}
 use Rattle.api.specs.Flat.{partOf, flatPasses, noReport, noFigures, noFill, noBase, noVolumes, noReading, nothingShown, noEntry, noHandout, noCommons}
 use Rattle.api.specs.declared.jobs.EndakuroPart.{EndakuroPart}
 use Rattle.api.specs.declared.quotients.EndakuroQuotient.{EndakuroQuotient}
@@ -25,7 +25,7 @@ use Rattle.promises.specs.Arguments.{first, second, third, fourth, fifth
 use Rattle.promises.specs.FlatEnding.{FlatEnds, byKind, passesIn}
 use Rattle.promises.specs.EntriesC.{EntriesC}
 use Rattle.promises.proofs.FlatEndings.{flat-ends, flat-leaves, done-at-zero, refused-at-other, factor-back, report-back, run-back, fill-back, passes-back, volumes-back, draw-back, ticket-back, live-back, panel-back, entry-back, change-back, take-back, commons-back, quotient-back, no-quotient}
-use Rattle.promises.proofs.Demand1.{cts-ends, cps-ends, cpl-ends, shown-ends, job-ends, write-ends, read-ends, fill-ends, volumes-end, draw-ends, ticket-ends, live-ends, panel-temperature-ends, panel-pressure-ends, look-up-ends, request-ends, withdrawal-ends, take-ends, setting-ends, commons-end}
+use Rattle.promises.proofs.Demand1.{cts-ends, cps-ends, cpl-ends, shown-ends, job-ends, write-ends, read-ends, fill-ends, volumes-end, draw-ends, ticket-ends, live-ends, channels-end, panel-temperature-ends, panel-pressure-ends, look-up-ends, request-ends, withdrawal-ends, take-ends, setting-ends, commons-end}
 use Rattle.promises.proofs.Demand1.{left-as-found, request-leaves-book, withdrawal-leaves-book, take-leaves-book, setting-leaves-book}
 
 -- start and length in the lent records are the accepted runs
@@ -101,6 +101,7 @@ entries-c =
       bidirectional-entry = λ κ a r x p. flat-ends refl noBase draw-back p (draw-ends Bidirectional (proverBy (first a)) (second a .now));
       ticket-entry = λ κ a r x p. flat-ends refl noVolumes ticket-back p (ticket-ends (ticketBy (first a)));
       live-entry = λ κ a r x p. flat-ends refl noReading live-back p (live-ends (first a) (second a));
+      channels-entry = λ κ a r x p. flat-ends refl noReading live-back p (channels-end (temperatureBy (first a)) (pressureBy (second a)));
       panel-temperature-entry = λ κ a r x p. flat-ends refl nothingShown panel-back p (panel-temperature-ends (first a));
       panel-pressure-entry = λ κ a r x p. flat-ends refl nothingShown panel-back p (panel-pressure-ends (first a));
       look-up-entry = λ κ a r x p. flat-ends refl noEntry entry-back p (look-up-ends (first a) (second a) (third a .now));

@@ -32,3 +32,5 @@ pub mod Demand3
 pub mod Agreement
 pub mod OwnFigures
 pub mod TwoAndEight
+pub mod Transmitters
+pub mod TransmitterFigures

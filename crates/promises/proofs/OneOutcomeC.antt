@@ -26,6 +26,7 @@ one-outcome-c =
       bidirectional-one = (λ _ _. tt, λ _ _ _ _ _ _. same);
       ticket-one = (λ _ _. tt, λ _ _ _ _ _ _. same);
       live-one = (λ _ _. tt, λ _ _ _ _ _ _. same);
+      channels-one = (λ _ _. tt, λ _ _ _ _ _ _. same);
       panel-temperature-one = (λ _ _. tt, λ _ _ _ _ _ _. same);
       panel-pressure-one = (λ _ _. tt, λ _ _ _ _ _ _. same);
       look-up-one = (λ _ _. tt, λ _ _ _ _ _ _. same);

@@ -152,6 +152,16 @@ module _ {R A : Type 0} {C : ℕ → ℕ → Type 0} where
   pub by-judging : {f : Fault} (x : R) → Exactly A C f → Tells A C (judged f x)
   by-judging {f} x = tells-judged f x
 
+  -- a refusal outright
+  pub tells-refused : (number : ℕ) → (A → ⊥) → C number 0 → ((n at : ℕ) → C n at → (number ≡ n) × (0 ≡ at)) → Tells {R = R} A C (refused number 0)
+  tells-refused number not-accepted why one =
+      record {
+        gives = λ ok. absurd (not-accepted ok);
+        accepted = λ is. absurd (refused-not-done is);
+        refuses = λ {number = n} {at} why. let same = one n at why in λ i. refused (same .0 i) (same .1 i);
+        because = λ is. moved C (refused-number is) (refused-record is) why;
+      }
+
   module _ {B : Type 0} {D : ℕ → ℕ → Type 0} where
     -- what follows, unless judging finds a fault
     tells-unless : (f : Fault) (t : Told R) → Exactly A C f → Tells B D t → Tells (A × B) (InTurn C A D) (unless f t)

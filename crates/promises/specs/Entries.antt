@@ -34,6 +34,7 @@ use Rattle.draw.proofs.volumes.Reads as volumes
 use Rattle.draw.proofs.draw.Reads as draw
 use Rattle.ticket.proofs.work_out.Reads as ticket
 use Rattle.live.proofs.convert.Reads as convert
+use Rattle.live.proofs.channels.convert.Reads as convert-channels
 use Rattle.live.proofs.panel.show_temperature.Reads as show-temperature
 use Rattle.live.proofs.panel.show_pressure.Reads as show-pressure
 use Rattle.lookup.proofs.look_up.Reads as look-up
@@ -42,7 +43,7 @@ use Rattle.book.proofs.withdraw.Reads as withdraw
 use Rattle.book.proofs.take.Reads as take
 use Rattle.book.proofs.set_figures.Reads as set-figures
 use Rattle.book.proofs.tell_commons.Reads as tell-commons
-use Rattle.promises.specs.Numbers.{settingNumbers, liquidNumbers, jobNumbers, recordNumbers, runNumbers, drawNumbers, passesNumbers, fillNumbers, ticketNumbers, liveNumbers, panelNumbers, lookUpNumbers, requestNumbers, withdrawalNumbers, takeNumbers, agreementNumbers, commonsNumbers, readNumbers, writeNumbers}
+use Rattle.promises.specs.Numbers.{settingNumbers, liquidNumbers, jobNumbers, recordNumbers, runNumbers, drawNumbers, passesNumbers, fillNumbers, ticketNumbers, liveNumbers, channelNumbers, panelNumbers, lookUpNumbers, requestNumbers, withdrawalNumbers, takeNumbers, agreementNumbers, commonsNumbers, readNumbers, writeNumbers}
 use Rattle.promises.specs.Arguments.{first, second, third, fourth, fifth, sixth}
 use Rattle.promises.specs.Ending.{Ends}
 
@@ -66,6 +67,7 @@ pub record Entries : Type 0 where
   pub draw-entry : (κ : _) (a : _) (r : _) (x : _) → draw.Post κ a r x → Ends drawNumbers 1 (recordsIn 32 (third a .now)) (toldDraw r)
   pub ticket-entry : (κ : _) (a : _) (r : _) (x : _) → ticket.Post κ a r x → Ends ticketNumbers 0 0 (toldTicket r)
   pub convert-entry : (κ : _) (a : _) (r : _) (x : _) → convert.Post κ a r x → Ends liveNumbers 0 0 (toldLive r)
+  pub convert-channels-entry : (κ : _) (a : _) (r : _) (x : _) → convert-channels.Post κ a r x → Ends channelNumbers 0 0 (toldLive r)
   pub show-temperature-entry : (κ : _) (a : _) (r : _) (x : _) → show-temperature.Post κ a r x → Ends panelNumbers 0 0 (toldPanel r)
   pub show-pressure-entry : (κ : _) (a : _) (r : _) (x : _) → show-pressure.Post κ a r x → Ends panelNumbers 0 0 (toldPanel r)
   -- the table's records, 1 to the count of those lent

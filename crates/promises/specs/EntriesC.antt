@@ -19,13 +19,14 @@ use Rattle.draw.specs.Answers.{fillOf, countOf, drawOf}
 use Rattle.draw.specs.declared.Profile.the-variants.{Unidirectional, Bidirectional}
 use Rattle.ticket.specs.Answers.{ticketOf}
 use Rattle.live.specs.Live.{liveOf}
+use Rattle.live.specs.Channels.{channelsOf}
 use Rattle.live.specs.Panel.{panelTemperatureOf, panelPressureOf}
 use Rattle.lookup.specs.Answers.{lookUpOf}
 use Rattle.book.specs.Figures.{emptyBook}
 use Rattle.book.specs.Calls.{requestOf, withdrawalOf, takeOf, settingOf, commonsOf}
 use Rattle.book.specs.declared.Book.{Book}
 use Rattle.book.specs.declared.Figures.{Figures}
-use Rattle.api.specs.Given.{pipeBy, liquidBy, proverBy, factorsBy, ticketBy}
+use Rattle.api.specs.Given.{pipeBy, liquidBy, proverBy, factorsBy, ticketBy, temperatureBy, pressureBy}
 use Rattle.api.specs.Flat.{noReport, noFigures, noFill, noBase, noVolumes, noReading, nothingShown, noEntry, noHandout, noCommons}
 use Rattle.api.specs.declared.books.EndakuroDone.{EndakuroDone}
 use Rattle.api.specs.declared.books.EndakuroTaken.{EndakuroTaken}
@@ -49,11 +50,12 @@ use Rattle.api.proofs.water.endakuro_draw.Reads as draw
 use Rattle.api.proofs.water.endakuro_bidirectional.Reads as bidirectional
 use Rattle.api.proofs.tickets.endakuro_ticket.Reads as ticket
 use Rattle.api.proofs.readings.endakuro_live.Reads as live
+use Rattle.api.proofs.readings.endakuro_channels.Reads as channels
 use Rattle.api.proofs.panel.endakuro_panel_temperature.Reads as panel-temperature
 use Rattle.api.proofs.panel.endakuro_panel_pressure.Reads as panel-pressure
 use Rattle.api.proofs.lookups.endakuro_look_up.Reads as look-up
 use Rattle.api.proofs.books.endakuro_empty.Reads as empty
-use Rattle.promises.specs.Numbers.{settingNumbers, liquidNumbers, jobNumbers, recordNumbers, drawNumbers, passesNumbers, fillNumbers, ticketNumbers, liveNumbers, panelNumbers, lookUpNumbers, requestNumbers, withdrawalNumbers, takeNumbers, agreementNumbers, commonsNumbers, readNumbers, writeNumbers}
+use Rattle.promises.specs.Numbers.{settingNumbers, liquidNumbers, jobNumbers, recordNumbers, drawNumbers, passesNumbers, fillNumbers, ticketNumbers, liveNumbers, channelNumbers, panelNumbers, lookUpNumbers, requestNumbers, withdrawalNumbers, takeNumbers, agreementNumbers, commonsNumbers, readNumbers, writeNumbers}
 use Rattle.promises.specs.Arguments.{first, second, third, fourth, fifth, sixth}
 use Rattle.promises.specs.FlatEnding.{FlatEnds, LeavesAsFound, byKind, factorIn, reportIn, runIn, fillIn, passesIn, baseIn, volumesIn, readingIn, shownIn, entryIn, changeIn, handoutIn, commonsIn}
 use Rattle.promises.specs.InPlaceC.{Requests, Withdraws, Takes, Sets, Shares}
@@ -90,6 +92,7 @@ pub record EntriesC : Type 0 where
   pub bidirectional-entry : (κ : _) (a : _) (r : _) (x : _) → bidirectional.Post κ a r x → FlatEnds drawNumbers 1 (recordsIn 32 (second a .now)) noBase (baseIn r) (drawOf Bidirectional (proverBy (first a)) (second a .now))
   pub ticket-entry : (κ : _) (a : _) (r : _) (x : _) → ticket.Post κ a r x → FlatEnds ticketNumbers 0 0 noVolumes (volumesIn r) (ticketOf (ticketBy (first a)))
   pub live-entry : (κ : _) (a : _) (r : _) (x : _) → live.Post κ a r x → FlatEnds liveNumbers 0 0 noReading (readingIn r) (liveOf (first a) (second a))
+  pub channels-entry : (κ : _) (a : _) (r : _) (x : _) → channels.Post κ a r x → FlatEnds channelNumbers 0 0 noReading (readingIn r) (channelsOf (temperatureBy (first a)) (pressureBy (second a)))
   pub panel-temperature-entry : (κ : _) (a : _) (r : _) (x : _) → panel-temperature.Post κ a r x → FlatEnds panelNumbers 0 0 nothingShown (shownIn r) (panelTemperatureOf (first a))
   pub panel-pressure-entry : (κ : _) (a : _) (r : _) (x : _) → panel-pressure.Post κ a r x → FlatEnds panelNumbers 0 0 nothingShown (shownIn r) (panelPressureOf (first a))
   pub look-up-entry : (κ : _) (a : _) (r : _) (x : _) → look-up.Post κ a r x → FlatEnds lookUpNumbers 1 (recordsIn 8 (third a .now)) noEntry (entryIn r) (lookUpOf (first a) (second a) (third a .now))

@@ -34,3 +34,6 @@ pub mod PrintedEntry
 pub mod FlatEnding
 pub mod EntriesC
 pub mod Flattened
+pub mod Sent
+pub mod Transmitters
+pub mod TransmitterFigures

@@ -43,6 +43,10 @@ ticketNumbers = 10 ∷ 11 ∷ []
 abbrev pub liveNumbers : List ℕ
 liveNumbers = 12 ∷ 13 ∷ []
 
+-- 02, 'Smart transmitters': 'the first channel's 34, 35, 12, 13, then the second's'
+abbrev pub channelNumbers : List ℕ
+channelNumbers = 34 ∷ 35 ∷ 12 ∷ 13 ∷ []
+
 abbrev pub panelNumbers : List ℕ
 panelNumbers = 13 ∷ []
 

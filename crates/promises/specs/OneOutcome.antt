@@ -74,6 +74,8 @@ use Rattle.draw.proofs.volumes.Reads as draw-volumes
 use Rattle.draw.proofs.draw.Reads as draw-draw
 use Rattle.ticket.proofs.work_out.Reads as ticket-work-out
 use Rattle.live.proofs.convert.Reads as live-convert
+use Rattle.live.proofs.channels.from_bits.Reads as live-from-bits
+use Rattle.live.proofs.channels.convert.Reads as live-convert-channels
 use Rattle.live.proofs.panel.show_temperature.Reads as live-show-temperature
 use Rattle.live.proofs.panel.show_pressure.Reads as live-show-pressure
 use Rattle.lookup.proofs.look_up.Reads as lookup-look-up
@@ -169,6 +171,8 @@ pub record OneOutcome : Type 0 where
   pub draw-draw-one : OneAnswer draw-draw.Pre draw-draw.Post
   pub ticket-work-out-one : OneAnswer ticket-work-out.Pre ticket-work-out.Post
   pub live-convert-one : OneAnswer live-convert.Pre live-convert.Post
+  pub live-from-bits-one : OneAnswer live-from-bits.Pre live-from-bits.Post
+  pub live-convert-channels-one : OneAnswer live-convert-channels.Pre live-convert-channels.Post
   pub live-show-temperature-one : OneAnswer live-show-temperature.Pre live-show-temperature.Post
   pub live-show-pressure-one : OneAnswer live-show-pressure.Pre live-show-pressure.Post
   pub lookup-look-up-one : OneAnswer lookup-look-up.Pre lookup-look-up.Post

@@ -18,6 +18,7 @@ use Rattle.api.proofs.water.endakuro_draw.Reads as draw
 use Rattle.api.proofs.water.endakuro_bidirectional.Reads as bidirectional
 use Rattle.api.proofs.tickets.endakuro_ticket.Reads as ticket
 use Rattle.api.proofs.readings.endakuro_live.Reads as live
+use Rattle.api.proofs.readings.endakuro_channels.Reads as channels
 use Rattle.api.proofs.panel.endakuro_panel_temperature.Reads as panel-temperature
 use Rattle.api.proofs.panel.endakuro_panel_pressure.Reads as panel-pressure
 use Rattle.api.proofs.lookups.endakuro_look_up.Reads as look-up
@@ -49,6 +50,7 @@ pub record OneOutcomeC : Type 0 where
   pub bidirectional-one : OneAnswer bidirectional.Pre bidirectional.Post
   pub ticket-one : OneAnswer ticket.Pre ticket.Post
   pub live-one : OneAnswer live.Pre live.Post
+  pub channels-one : OneAnswer channels.Pre channels.Post
   pub panel-temperature-one : OneAnswer panel-temperature.Pre panel-temperature.Post
   pub panel-pressure-one : OneAnswer panel-pressure.Pre panel-pressure.Post
   pub look-up-one : OneAnswer look-up.Pre look-up.Post

@@ -60,6 +60,10 @@ pub enum Refusal {
     TableRecord(u16),
     // 33: no such pair in a table
     NoSuchPair,
+    // 34: a fault code in place of a reading
+    FaultCode,
+    // 35: a channel of the wrong kind
+    WrongKind,
 }
 
 // What judging finds: nothing, or why the caller is refused.
@@ -106,6 +110,8 @@ pub fn give_back(refusal: Refusal) -> GivenBack
         Refusal::FiguresOutside => GivenBack { number: 31, at: 0 },
         Refusal::TableRecord(at) => GivenBack { number: 32, at },
         Refusal::NoSuchPair => GivenBack { number: 33, at: 0 },
+        Refusal::FaultCode => GivenBack { number: 34, at: 0 },
+        Refusal::WrongKind => GivenBack { number: 35, at: 0 },
     }
 }
 

@@ -11,7 +11,7 @@ told is = sym (ap givenBack is)
 pub give-back-spec : {M : Type 1} → Rattle.refusals.proofs.give_back.Statement.statement M
 give-back-spec =
     tie.close
-    (tie.spec (search needs) (search needs) (search needs) (search needs) (search needs) (search needs) (search needs) (search needs) (search needs) (search needs) (search needs)
+    (tie.spec (search needs) (search needs) (search needs) (search needs) (search needs) (search needs) (search needs) (search needs) (search needs) (search needs) (search needs) (search needs) (search needs)
     (search needs) (search needs) (search needs) (search needs) (search needs) (search needs) (search needs) (search needs) (search needs)
     (search needs) (search needs) (search needs) (search needs) (search needs) (search needs) (search needs) (λ c. told (c .enum-told .given .1))
     (λ c. told (c .before .refusal .given .1)) (λ c. told (c .enum-told2 .given .1)) (λ c. told (c .enum-told3 .given .1))
@@ -22,4 +22,5 @@ give-back-spec =
     (λ c. told (c .enum-told12 .given .1)) (λ c. told (c .enum-told13 .given .1)) (λ c. told (c .enum-told14 .given .1))
     (λ c. told (c .enum-told15 .given .1)) (λ c. told (c .enum-told16 .given .1)) (λ c. told (c .enum-told17 .given .1))
     (λ c. told (c .enum-told18 .given .1)) (λ c. told (c .enum-told19 .given .1)) (λ c. told (c .enum-told20 .given .1))
-    (λ c. told (c .before .refusal6 .given .1)) (λ c. told (c .enum-told21 .given .1)))
+    (λ c. told (c .before .refusal6 .given .1)) (λ c. told (c .enum-told21 .given .1))
+    (λ c. told (c .enum-told22 .given .1)) (λ c. told (c .enum-told23 .given .1)))
