@@ -46,7 +46,7 @@ ticketBy t =
       sediment = t .sediment;
     }
 
--- a channel by its kind and its bits; a kind outside the four is as one that has no place there
+-- a channel by its kind, 0 °F, 1 °C, 2 psi or 3 a fault, and its bits; a kind outside the four is as one that has no place there
 unfoldable pub channelBy : Channel → EndakuroChannel → Channel
 channelBy misplaced c =
     cond (eqb (c .kind) 0) (Fahrenheit (ofBits binary32 (c .bits)))

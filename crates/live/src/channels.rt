@@ -29,11 +29,14 @@ enum Taken {
     Refused(Refusal),
 }
 
+// 255 · 2^23, the bits of infinity; what is above them, the side of zero left out, is a NaN's.
+const INFINITY: u32 = 2139095040;
+
 // A NaN has many patterns, and no number's: any will do.
 pub fn from_bits(bits: u32) -> f32
     ensures { λ r. ⌜ r ≡ ofBits binary32 bits ⌝ }
 {
-    if 2139095040 < bits % 2147483648 {
+    if INFINITY < bits % 2147483648 {
         return 0.0 / 0.0;
     }
     f32::from_bits(bits)

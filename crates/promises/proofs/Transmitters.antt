@@ -117,7 +117,7 @@ module _ (sent : Channel → Option Scaled) (inRange : ℤ → Bool) (channel : 
 
     only : (number : ℕ) → ((code : ℕ) → channel ≡ Fault code → number ≡ 34) → (((code : ℕ) → channel ≡ Fault code → ⊥) → number ≡ 35) → (n at : ℕ) → Cause n at → (number ≡ n) × (0 ≡ at)
     only number a-fault no-fault _ _ (fault-code code e) = (a-fault code e, refl)
-    only number a-fault no-fault _ _ (wrong-kind none e) = (no-fault none, refl)
+    only number a-fault no-fault _ _ (wrong-kind no-code e) = (no-fault no-code, refl)
     only number a-fault no-fault _ _ (not-finite t e _) = absurd (none-not-some (sym is ∙ e))
     only number a-fault no-fault _ _ (out-of-range t n e _ _ _) = absurd (none-not-some (sym is ∙ e))
 
