@@ -11,9 +11,10 @@ told is = sym (ap givenBack is)
 pub give-back-spec : {M : Type 1} → Rattle.refusals.proofs.give_back.Statement.statement M
 give-back-spec =
     tie.close
-    (tie.spec (search needs) (search needs) (search needs) (search needs) (search needs) (search needs) (search needs) (search needs) (search needs) (search needs) (search needs) (search needs) (search needs)
+    (tie.spec (search needs) (search needs) (search needs) (search needs) (search needs) (search needs) (search needs) (search needs) (search needs)
     (search needs) (search needs) (search needs) (search needs) (search needs) (search needs) (search needs) (search needs) (search needs)
-    (search needs) (search needs) (search needs) (search needs) (search needs) (search needs) (search needs) (λ c. told (c .enum-told .given .1))
+    (search needs) (search needs) (search needs) (search needs) (search needs) (search needs) (search needs) (search needs) (search needs)
+    (search needs) (search needs) (λ c. told (c .enum-told .given .1))
     (λ c. told (c .before .refusal .given .1)) (λ c. told (c .enum-told2 .given .1)) (λ c. told (c .enum-told3 .given .1))
     (λ c. told (c .before .refusal2 .given .1)) (λ c. told (c .before .refusal3 .given .1)) (λ c. told (c .before .refusal4 .given .1))
     (λ c. told (c .before .refusal5 .given .1)) (λ c. told (c .enum-told4 .given .1)) (λ c. told (c .enum-told5 .given .1))
