@@ -13,6 +13,7 @@ pub transmitter-figures : TransmitterFigures
 unfolding inFahrenheit inCelsius inPsi beside40 channelsOf temperatureChannelOf pressureChannelOf celsiusOf temperatureOf pressureOf singleOf wholeOf psiOk numerator denominator awayFromZero roundedDiv temperatureOk pressureOk ofBits
 transmitter-figures =
     record {
+      forty-below-is = refl;
       forty-below = refl;
       room = refl;
       freezing = refl;

@@ -5,7 +5,7 @@ use Prim.Native.Nat.{ℕ}
 use lib.IntN.{ℤ, pos, negℤ}
 use lib.Ieee.{nan, binary32, ofBits}
 use Rattle.refusals.specs.Told.{Told, done, refused}
-use Rattle.live.specs.Live.{Values}
+use Rattle.live.specs.Live.{Values, wholeOf}
 use Rattle.live.specs.Channels.{channelsOf}
 use Rattle.live.specs.declared.channels.Channel.{Channel}
 use Rattle.live.specs.declared.channels.Channel.the-variants.{Fahrenheit, Celsius, Pressure, Fault}
@@ -29,6 +29,7 @@ reading tenths = done (record { tenths = tenths; psi = 40 })
 
 pub record TransmitterFigures : Type 0 where
   -- '-40 °C gives -400, which is 13'
+  pub forty-below-is : wholeOf 320 18 (ofBits binary32 0xc220_0000) ≡ negℤ (pos 400)
   pub forty-below : beside40 (inCelsius 0xc220_0000) ≡ refused 13 0
   -- 22.5 °C, 0 °C and -0 °C; 73.25 °F as in 01
   pub room : beside40 (inCelsius 0x41b4_0000) ≡ reading (pos 725)
