@@ -1,5 +1,5 @@
 // Smart transmitters: live readings of a temperature channel, in °F or °C, and a pressure channel.
-#include "kind.h"
+#include "live_answers.h"
 #include "plain.h"
 #include <string.h>
 
@@ -8,7 +8,7 @@ typedef struct {
 } Input;
 
 static Input inputs[CHUNK];
-static EndakuroLive answers[SIDES][CHUNK];
+static LiveAnswers answers;
 
 static EndakuroChannel carrying(uint32_t kind, double number) {
     float single = (float)number;
@@ -94,14 +94,8 @@ static void work(int side, int count) {
     for (int i = 0; i < count; i++) answers[side][i] = live[side](inputs[i].temperature, inputs[i].pressure);
 }
 
-static bool same(const EndakuroLive *a, const EndakuroLive *b) {
-    return a->number == b->number && a->record == b->record && a->tenths == b->tenths && a->psi == b->psi;
-}
-
 static long differences(int side) {
-    long different = 0;
-    for (int i = 0; i < CHUNK; i++) different += !same(&answers[OURS][i], &answers[side][i]);
-    return different;
+    return different_readings(answers, side);
 }
 
 const Kind channels = {"smart transmitters", 1000000, make, work, differences};

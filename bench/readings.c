@@ -1,5 +1,5 @@
 // Live readings.
-#include "kind.h"
+#include "live_answers.h"
 #include "plain.h"
 #include <string.h>
 
@@ -8,7 +8,7 @@ typedef struct {
 } Reading;
 
 static Reading inputs[CHUNK];
-static EndakuroLive answers[SIDES][CHUNK];
+static LiveAnswers answers;
 
 // Any 32 bits: NaNs, infinities and the smallest numbers among them.
 static float any_single(Chance *chance) {
@@ -37,14 +37,8 @@ static void work(int side, int count) {
     for (int i = 0; i < count; i++) answers[side][i] = live[side](inputs[i].temperature, inputs[i].pressure);
 }
 
-static bool same(const EndakuroLive *a, const EndakuroLive *b) {
-    return a->number == b->number && a->record == b->record && a->tenths == b->tenths && a->psi == b->psi;
-}
-
 static long differences(int side) {
-    long different = 0;
-    for (int i = 0; i < CHUNK; i++) different += !same(&answers[OURS][i], &answers[side][i]);
-    return different;
+    return different_readings(answers, side);
 }
 
 const Kind readings = {"live readings", 1000000, make, work, differences};
