@@ -7,8 +7,9 @@
 #include <stdlib.h>
 #include <time.h>
 
-static const Kind *const kinds[] = {&jobs,  &draws,    &round_trips, &tickets,   &readings,      &channels,
-                                    &panel, &look_ups, &calls,       &quotients, &long_quotients};
+static const Kind *const kinds[] = {&jobs,     &long_jobs, &draws,     &round_trips,   &tickets,     &readings,
+                                    &channels, &panel,     &look_ups,  &forward_4096,  &forward_512, &back_4096,
+                                    &back_512, &calls,     &quotients, &long_quotients};
 
 #define KINDS (sizeof kinds / sizeof *kinds)
 
@@ -27,15 +28,15 @@ typedef struct {
 // Every side works through each chunk before the next is made, and they take turns in going first.
 static void work_through(const Kind *kind, Chance *chance, long chunks, Measured *measured) {
     for (long chunk = 0; chunk < chunks; chunk++) {
-        kind->make(chance, CHUNK, false);
+        kind->make(chance, kind->chunk, false);
         for (int turn = 0; turn < SIDES; turn++) {
             int side = (int)((chunk + turn) % SIDES);
             double begin = now();
-            kind->work(side, CHUNK);
+            kind->work(side, kind->chunk);
             measured->seconds[side] += now() - begin;
         }
-        measured->made += CHUNK;
-        for (int side = PLAIN; side < SIDES; side++) measured->differences += kind->differences(side);
+        measured->made += kind->chunk;
+        for (int side = PLAIN; side < SIDES; side++) measured->differences += kind->differences(side, kind->chunk);
     }
 }
 
@@ -47,14 +48,14 @@ static void work_through_damaged(const Kind *kind, Chance *chance, long chunks, 
         kind->work(PLAIN, CHUNK);
         kind->work(PREVIOUS, CHUNK);
         measured->damaged += CHUNK;
-        measured->differences += kind->differences(PLAIN) + kind->differences(PREVIOUS);
+        measured->differences += kind->differences(PLAIN, CHUNK) + kind->differences(PREVIOUS, CHUNK);
     }
 }
 
 static Measured measure(const Kind *kind, long share) {
     Measured measured = {0};
     Chance chance = {1};
-    long chunks = kind->count / CHUNK / share;
+    long chunks = kind->count / kind->chunk / share;
     if (chunks == 0) chunks = 1;
     work_through(kind, &chance, chunks, &measured);
     work_through_damaged(kind, &chance, (chunks + 9) / 10, &measured);
@@ -95,7 +96,7 @@ static int compare_all(long share) {
 // The kind and the side are numbered as in the tables above.
 static int work_alone(long kind, long side, long made, long count) {
     if (kind < 0 || kind >= (long)KINDS || side < 0 || side >= SIDES) return 2;
-    if (count < 0 || count > made || made > CHUNK) return 2;
+    if (count < 0 || count > made || made > kinds[kind]->chunk) return 2;
     Chance chance = {1};
     kinds[kind]->make(&chance, (int)made, false);
     kinds[kind]->work((int)side, (int)count);

@@ -158,12 +158,12 @@ static bool same_figures(const EndakuroBook *a, const EndakuroBook *b) {
     return memcmp(&a->figures, &b->figures, sizeof a->figures) == 0;
 }
 
-static long differences(int side) {
+static long differences(int side, int count) {
     long different = !same_books(&kept[OURS], &kept[side]);
     // to an archive of before agreements those bytes are nothing, and it may leave any
     different += has_figures(side) && !same_figures(&kept[OURS], &kept[side]);
-    for (int i = 0; i < CHUNK; i++) different += !same(&answers[OURS][i], &answers[side][i]);
+    for (int i = 0; i < count; i++) different += !same(&answers[OURS][i], &answers[side][i]);
     return different;
 }
 
-const Kind calls = {"book calls", 1000000, make, work, differences};
+const Kind calls = {"book calls", 1000000, CHUNK, make, work, differences};

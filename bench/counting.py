@@ -18,6 +18,7 @@ BENCH = ROOT / "target/c/bench"
 # As bench.c and kind.h have them.
 KINDS = (
     "jobs of twenty runs",
+    "jobs of long records",
     "water draws",
     "bidirectional draws",
     "tickets",
@@ -25,10 +26,16 @@ KINDS = (
     "smart transmitters",
     "panel numbers",
     "look-ups in 4,096",
+    "forward of 4,096",
+    "forward of 512",
+    "back of 4,096",
+    "back of 512",
     "book calls",
     "rounded quotients",
     "those of two words",
 )
+# How many files a chunk of these has; of other inputs it has a thousand.
+FILES = {"forward of 4,096": 16, "forward of 512": 128, "back of 4,096": 16, "back of 512": 128}
 SIDES = ("ours", "plain C", "unchecked", "previous")
 OURS = 0
 
@@ -39,6 +46,12 @@ ADDRESS = re.compile(rb"Trace [^\[]*\[[0-9a-f]+/([0-9a-f]+)/")
 BOUND = os.environ | {"LD_BIND_NOW": "1"}
 PAGE = 4096
 ELSEWHERE = "the C library"
+
+
+def chosen(words):
+    """Each kind with its name and how many of its inputs are counted: as many as the command's words say, or 50, or all of a chunk."""
+    asked = int(words[0]) if words else 50
+    return [(kind, name, min(asked, FILES.get(name, asked))) for kind, name in enumerate(KINDS)]
 
 
 def carried_out(kind, side, made, count):

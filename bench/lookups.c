@@ -166,10 +166,10 @@ static bool same(const EndakuroEntry *a, const EndakuroEntry *b) {
            a->gravity == b->gravity && a->compressibility == b->compressibility;
 }
 
-static long differences(int side) {
+static long differences(int side, int count) {
     long different = 0;
-    for (int i = 0; i < CHUNK; i++) different += !same(&answers[OURS][i], &answers[side][i]);
+    for (int i = 0; i < count; i++) different += !same(&answers[OURS][i], &answers[side][i]);
     return different;
 }
 
-const Kind look_ups = {"look-ups in 4,096", 10000, make, work, differences};
+const Kind look_ups = {"look-ups in 4,096", 10000, CHUNK, make, work, differences};

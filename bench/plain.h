@@ -9,6 +9,10 @@
 #define DECLARE(side)                                                                                                  \
     EndakuroReport side##_prove(uint32_t request, EndakuroProver prover, uint32_t k, uint16_t limit,                   \
                                 const uint8_t *records, size_t size, uint8_t *buffer, size_t room);                    \
+    EndakuroReport side##_prove_long(uint32_t request, EndakuroProver prover, uint32_t k, uint16_t limit,              \
+                                     const uint8_t *records, size_t size, uint8_t *buffer, size_t room);               \
+    EndakuroMoved side##_forward(const uint8_t *records, size_t size, uint8_t *buffer, size_t room);                   \
+    EndakuroMoved side##_back(const uint8_t *records, size_t size, uint8_t *buffer, size_t room);                      \
     EndakuroDraw side##_draw(EndakuroProver prover, const uint8_t *records, size_t size);                              \
     EndakuroDraw side##_bidirectional(EndakuroProver prover, const uint8_t *records, size_t size);                     \
     EndakuroVolumes side##_ticket(EndakuroTicket ticket);                                                              \
@@ -29,9 +33,13 @@ DECLARE(bare);
 DECLARE(previous);
 
 // An archive of before bidirectional provers has none, one of before agreements knows 2 and 8 alone, one of before
-// look-ups has no look-up, and one of before smart transmitters has no channels.
+// look-ups has no look-up, one of before smart transmitters has no channels, and one of before long run records knows
+// the short ones alone.
 #pragma weak previous_bidirectional
 #pragma weak previous_set_figures
 #pragma weak previous_commons
 #pragma weak previous_look_up
 #pragma weak previous_channels
+#pragma weak previous_prove_long
+#pragma weak previous_forward
+#pragma weak previous_back

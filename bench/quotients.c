@@ -54,14 +54,14 @@ static void work(int side, int count) {
     for (int i = 0; i < count; i++) answers[side][i] = divide[side](inputs[i].a, inputs[i].b, inputs[i].d);
 }
 
-static long differences(int side) {
+static long differences(int side, int count) {
     long different = 0;
-    for (int i = 0; i < CHUNK; i++) {
+    for (int i = 0; i < count; i++) {
         const EndakuroQuotient *a = &answers[OURS][i], *b = &answers[side][i];
         different += a->kind != b->kind || a->value != b->value;
     }
     return different;
 }
 
-const Kind quotients = {"rounded quotients", 10000000, make, work, differences};
-const Kind long_quotients = {"those of two words", 1000000, make_long, work, differences};
+const Kind quotients = {"rounded quotients", 10000000, CHUNK, make, work, differences};
+const Kind long_quotients = {"those of two words", 1000000, CHUNK, make_long, work, differences};

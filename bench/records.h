@@ -3,7 +3,7 @@
 #include "chance.h"
 #include <endakuro.h>
 
-enum { RECORD_BYTES = 32 };
+enum { RECORD_BYTES = 32, LONG_RECORD_BYTES = 48 };
 
 static inline void put(uint8_t *at, int bytes, int64_t x) {
     for (int i = 0; i < bytes; i++) at[i] = (uint8_t)((uint64_t)x >> 8 * i);

@@ -1,6 +1,7 @@
 """What a command found, for machines: docs/JSON.md has every key."""
 
 import json
+from hashlib import sha256
 
 from . import version
 from .fields import ASKED, FACTOR
@@ -65,6 +66,19 @@ def look_up(own, asked, found=None, explained=None):
     made = head("look-up", REFUSED if explained else ACCEPTED) | {"table": table(own)}
     made["asked"] = read_figures(asked, ASKED)
     return made | ({"refusal": refusal(explained)} if explained else {"result": entry(found)})
+
+
+def move(way, old, new, explained=None):
+    """A file of run records moved to their other form, or refused."""
+    made = head("move", REFUSED if explained else ACCEPTED) | {"direction": way.name}
+    if explained:
+        return made | {"from": {"file": old.name, "form": old.form.name}, "refusal": refusal(explained)}
+    return made | {"from": run_file(old), "to": run_file(new)}
+
+
+def run_file(own):
+    told = {"file": own.name, "form": own.form.name, "records": own.parts[0], "length": len(own.octets)}
+    return told | {"sha256": sha256(own.octets).hexdigest()}
 
 
 def bad(command, fault):

@@ -42,10 +42,21 @@ def is_current():
     if not BINARY.is_file():
         return False
     known = max(place.stat().st_mtime for place in (BINARY, STAMP) if place.is_file())
-    sources = [ROOT / "crates.txt"]
-    for crate in crates():
-        sources += (place for place in (ROOT / "crates" / crate).rglob("*") if "must-fail" not in place.parts)
-    return all(place.stat().st_mtime <= known for place in sources)
+    sources = (place for crate in crates() for place in within(ROOT / "crates" / crate))
+    return all(place.stat().st_mtime <= known for place in (ROOT / "crates.txt", *sources))
+
+
+def within(folder):
+    """All files and folders of a crate but its wrong programs, which are no part of the program. By scandir: they are
+    looked at before every command."""
+    if not os.path.isdir(folder):
+        return
+    with os.scandir(folder) as places:
+        for place in places:
+            if place.name != "must-fail":
+                yield place
+                if place.is_dir(follow_symlinks=False):
+                    yield from within(place)
 
 
 def ensure():

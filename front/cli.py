@@ -80,6 +80,13 @@ def parser():
     look_up.add_argument("gravity", metavar="GRAVITY", help=f"{fields.GRAVITY.range}, at 60 °F")
     writes(look_up, "--html", "OUT.html", "write what is found for print, one sheet of Letter or A4")
 
+    move = command("move", commands.move, "run records moved to their longer form, or back", helps.MOVE)
+    move.add_argument("old", metavar="OLD", help="the file of run records; - is standard input")
+    move.add_argument("new", metavar="NEW", help="where they go in their other form; - is standard output")
+    move.add_argument("--back", action="store_true", help="from the long form, 48 bytes a record, to the short one")
+    move.add_argument("--force", action="store_true", help="write over a file that is there already")
+    move.set_defaults(written={"NEW": "new"})
+
     book = command("book", commands.book, "a session with the book of waiting requests", helps.BOOK)
     book.add_argument("session", nargs="?", metavar="SESSION.txt", help="the steps, a line each; else the keyboard")
     book.add_argument("--keep", metavar="FILE", help="go on from the book of FILE, and keep it there")
@@ -131,17 +138,17 @@ def job_of(own):
 def writes(own, option, metavar, told, default=None):
     """An option that names an output. Those of a command are checked before it runs (`outputs.check`)."""
     if not own.get_default("written"):
-        own.set_defaults(written=())
         own.add_argument("--force", action="store_true", help="write over outputs that are there already")
-    own.set_defaults(written=(*own.get_default("written"), option))
+    own.set_defaults(written={**(own.get_default("written") or {}), option: option.strip("-")})
     own.add_argument(option, metavar=metavar, help=told, default=default)
 
 
 def ready(options):
     """The options, once no output can cost anything that is there. `-` as an output takes the page's place."""
-    options.places = {option: getattr(options, option.strip("-")) for option in getattr(options, "written", ())}
+    options.places = {option: getattr(options, name) for option, name in getattr(options, "written", {}).items()}
     options.force = getattr(options, "force", False)
-    outputs.check([options.job] if "job" in options else [], options.places, options.force)
+    read = [getattr(options, name) for name in ("job", "old") if name in options]
+    outputs.check(read, options.places, options.force)
     suffixes.check(options.places)
     options.page = outputs.STANDARD not in options.places.values()
     if options.json and not options.page:

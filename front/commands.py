@@ -4,8 +4,8 @@ import os
 import sys
 
 from . import book as books
-from . import as_json, asked_numbers, figures, html_page, jobs, look_up_faults, look_up_pages, look_ups, outputs, page
-from . import pages, plot, report_record, rework, short_pages, steps, suffixes, templates
+from . import as_json, asked_numbers, figures, html_page, jobs, look_up_faults, look_up_pages, look_ups, moves, outputs
+from . import page, pages, plot, report_record, rework, short_pages, steps, suffixes, templates
 from . import verify as verifying
 from . import workbook, worksheets
 from . import worked as works
@@ -68,9 +68,7 @@ def write_outputs(options, worked):
 def refuse_job(options, worked):
     """A refused job: a proving's record is not written, and what stands in its place is none of it."""
     status = refuse(worked.job.path, worked.refusal)
-    record = getattr(options, "record", None)
-    if record and os.path.isfile(record):
-        print(f"{plain(record)}: not written: the record there is of an earlier job", file=sys.stderr)
+    say_kept(getattr(options, "record", None), "the record there is of an earlier job")
     return status
 
 
@@ -112,6 +110,33 @@ def look_up(options, program):
         explained = look_up_faults.explain(table, asked, refused.refusal)
     shown = look_up_pages.build(table, asked, found, explained)
     return give(options, table.name, shown, as_json.look_up(table, asked, found, explained), explained)
+
+
+def move(options, program):
+    """Whole or not at all: what stands in NEW's place stays where a record is refused."""
+    way = moves.BACK if options.back else moves.FORWARD
+    old, new, explained = moves.read(options.old, way), None, None
+    try:
+        new = moves.moved(old, way, options.new, program)
+    except Refused as refused:
+        explained = moves.explain(old, way, refused.refusal, program)
+    if new:
+        outputs.write(options.new, new.octets)
+    if options.json:
+        tell(as_json.move(way, old, new, explained))
+    elif new and options.page:
+        print(moves.line(old, new, way), flush=True)
+    if not explained:
+        return DONE
+    status = refuse(old.name, explained)
+    say_kept(options.new, "the file there is as it was")
+    return status
+
+
+def say_kept(path, words):
+    """Of an output that a refusal leaves out: what stands in its place."""
+    if path and os.path.isfile(path):
+        print(f"{plain(path)}: not written: {words}", file=sys.stderr)
 
 
 def book(options, program):

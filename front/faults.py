@@ -6,7 +6,7 @@ from .field_faults import of_count, of_fields, of_unnamed_bytes, out_of_range, u
 from .look_ups import Missed
 from .profiles import BIDIRECTIONAL
 from .program import Refused
-from .records import FILL_LAYOUT, RUN_LAYOUT
+from .records import FILL_LAYOUT
 from .refusals import Detail, Explained
 from .units import shown
 
@@ -43,15 +43,15 @@ def of_proving(job, refusal, program):
             counts = {"k_factor": job.k_factor, "repeatability_limit": job.limit}
             return out_of_range(counts, fields.named(fields.K_FACTOR, fields.LIMIT))
         case 5:
-            return of_fields(run.counts, fields.RUN, at)
+            return of_fields(run.counts, job.form.fields, at)
         case 2:
-            return of_unnamed_bytes(run.record, RUN_LAYOUT, at)
+            return of_unnamed_bytes(run.record, job.form.layout, at)
         case 7:
-            given = f"{fields.PULSE.text(run.counts['pulses'])} ÷ {fields.K_FACTOR.text(job.k_factor)}"
+            given = f"{job.form.pulses.text(run.counts['pulses'])} ÷ {fields.K_FACTOR.text(job.k_factor)}"
             return [unknown("indicated", fields.INDICATED, given, at)]
         case 8:
             given = (
-                f"that of {fields.PULSE.text(run.counts['pulses'])}, {fields.K_FACTOR.text(job.k_factor)}"
+                f"that of {job.form.pulses.text(run.counts['pulses'])}, {fields.K_FACTOR.text(job.k_factor)}"
                 f" and a base volume of {fields.BASE_VOLUME.text(job.prover.base)}"
             )
             return [unknown("factor", fields.RUN_FACTOR, given, at)]

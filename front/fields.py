@@ -22,7 +22,10 @@ BARRELS = ("bbl", "bbls", "barrel", "barrels")
 BARREL = Unit("bbl", 4, BARRELS)
 READING = Unit("bbl", 2, BARRELS)
 CUBIC_INCH = Unit("in³", 2, ("in3", "in^3", "cuin", "cubicinch", "cubicinches"))
-PULSE = Unit("pulses", 0, ("pulse", "pulses"), "pulse")
+PULSES = ("pulse", "pulses")
+PULSE = Unit("pulses", 0, PULSES, "pulse")
+# 02: 'Pulse interpolation gives thousandths of a pulse'.
+INTERPOLATED_PULSE = Unit("pulses", 3, PULSES, "pulse")
 PULSES_PER_BARREL = Unit("pulses/bbl", 3, ("pulses/bbl", "pulses/barrel", "pulsesperbarrel", "pulsesperbbl", "p/bbl"))
 PERCENT = ("%", "percent", "pct")
 TEN_THOUSANDTH = Unit("%", 2, PERCENT)
@@ -30,7 +33,7 @@ SEDIMENT_PERCENT = Unit("%", 3, PERCENT)
 NUMBER = Unit("", 0)
 
 # What a place of a record or an operand of a line can hold, by the letters of Python's struct.
-HOLDS = {"B": (0, 2**8 - 1), "H": (0, 2**16 - 1), "I": (0, 2**32 - 1), "h": (-(2**15), 2**15 - 1)}
+HOLDS = {"B": (0, 2**8 - 1), "H": (0, 2**16 - 1), "I": (0, 2**32 - 1), "Q": (0, 2**64 - 1), "h": (-(2**15), 2**15 - 1)}
 
 
 @dataclass(frozen=True)
@@ -43,6 +46,8 @@ class Field:
     place: str
     # What it is where a file does not say it; None where a file must.
     default: int | None = None
+    # What helps and new files say besides its range.
+    note: str = ""
 
     def text(self, count):
         return self.unit.text(count)
@@ -102,7 +107,7 @@ DOES_NOT_BOIL = 0
 # What a run is read at.
 SIDES = ("prover", "meter")
 RUN = named(
-    Field("pulses", "pulses", PULSE, 1, 100_000_000, "I"),
+    Field("pulses", "pulses", PULSE, 1, 100_000_000, "I", note="up to 3 decimals where interpolated"),
     Field("prover_temperature", "prover temperature", DEGREE, -200, 2000, "h"),
     Field("meter_temperature", "meter temperature", DEGREE, -200, 2000, "h"),
     Field("prover_pressure", "prover pressure", PSI, 0, 1500, "H"),
@@ -114,6 +119,8 @@ RUN = named(
     Field("prover_equilibrium_pressure", "prover equilibrium pressure Pe", PSI, 0, 1500, "H", DOES_NOT_BOIL),
     Field("meter_equilibrium_pressure", "meter equilibrium pressure Pe", PSI, 0, 1500, "H", DOES_NOT_BOIL),
 )
+# The same of a run whose pulses are interpolated.
+INTERPOLATED_RUN = RUN | named(Field("pulses", "pulses", INTERPOLATED_PULSE, 1000, 100_000_000_000, "Q"))
 INDICATED = Field("", "indicated volume", BARREL, 1, 100_000_000, "I")
 RUN_FACTOR = Field("", "run factor", FACTOR, 8000, 12000, "H")
 
@@ -173,8 +180,8 @@ def heading_label(key):
 
 
 RUNS, FILLS, PASSES = (5, 20), (3, 60), (3, 20)
-# 02: 'One to 4,096 records are lent at a time'.
-ENTRIES = (1, 4096)
+# 02: 'One to 4,096 records are lent at a time'; of a file to be moved, 'holds 1 to 4,096 records'.
+ENTRIES, MOVED = (1, 4096), (1, 4096)
 # 02, of a bidirectional draw: 'an odd count of passes, or a count outside 6 to 20, is 1'.
 PAIRED_PASSES = (6, 20)
 # A group of a draw is of passes or of round trips.

@@ -49,7 +49,7 @@ class Group:
 def prove(job, program):
     """The job's outcome, or its refusal raised."""
     words = (job.request, *job.prover.words, job.k_factor, job.limit, hexed(bytes(LENGTH)), hexed(job.records))
-    *numbers, record = program.ask("prove", *words)
+    *numbers, record = program.ask(f"prove{job.form.ending}", *words)
     factor, first, runs, *five = (int(number) for number in numbers)
     return Outcome(factor, first, runs, tuple(five), bytes.fromhex(record))
 
@@ -67,8 +67,8 @@ def best_of(values, size, program):
 
 def of_runs(job, program):
     """Each run's figures, a dictionary a run."""
-    settings = (*job.prover.words, job.k_factor)
-    return [dict(zip(OF_A_RUN, program.numbers("run", *settings, hexed(run.record)))) for run in job.runs]
+    line, settings = f"run{job.form.ending}", (*job.prover.words, job.k_factor)
+    return [dict(zip(OF_A_RUN, program.numbers(line, *settings, hexed(run.record)))) for run in job.runs]
 
 
 def of_fills(job, program):

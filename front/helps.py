@@ -29,11 +29,12 @@ def row(key, words):
 
 
 def keys(known):
-    return [row(field.key, f"{field.label}, {field.range}{left_out(field)}") for field in known.values()]
+    return [row(field.key, f"{field.label}, {field.range}{besides(field)}") for field in known.values()]
 
 
-def left_out(field):
-    return "" if field.default is None else f"; {field.text(field.default)} where it is left out"
+def besides(field):
+    left_out = "" if field.default is None else f"{field.text(field.default)} where it is left out"
+    return "".join(f"; {words}" for words in (field.note, left_out) if words)
 
 
 def prover(base):
@@ -72,11 +73,11 @@ def compressibility(*known):
     ]
 
 
-def entries(name, known):
+def entries(name, known, record):
     return [
         f"[[{name}]], one for each; [every_{name}] holds what all share, and a {name}'s own key wins",
         *keys(known),
-        row("record", f'instead of all others: the 32 bytes of the {name}\'s record in hex, "40 0d 03 .."'),
+        row("record", f'instead of all others: {record} in hex, "40 0d 03 .."'),
         f"[{name}s] in place of [[{name}]]: a CSV with a line a {name}, under the keys as headings",
         row("file", "its name, beside the job file"),
         row("ignore", 'headings that are no part of the job: ["Time"]'),
@@ -109,7 +110,7 @@ PROVE = described(
     [row("repeatability_limit", f"{fields.LIMIT.range}; {fields.LIMIT.text(fields.HOUSE_LIMIT)} where it is left out")],
     prover(True),
     ["[meter]", *keys(fields.named(fields.K_FACTOR))],
-    entries("run", fields.RUN),
+    entries("run", fields.RUN, "the run's record, 32 or 48 bytes"),
     compressibility(fields.GRAVITY),
     [row("", "each F by its own side's temperature; one that is typed is used as typed")],
 )
@@ -117,7 +118,7 @@ DRAW = described(
     "Prints the report of a water draw: a row a fill, the passes, a bidirectional prover's round trips, the\n"
     "accepted three, the base volume in cubic inches and barrels.",
     prover(False),
-    entries("fill", fields.FILL),
+    entries("fill", fields.FILL, "the 32 bytes of the fill's record"),
 )
 TICKET = described(
     "Prints a measurement ticket: its factor, gross standard and net standard volume.",
@@ -155,6 +156,15 @@ LOOK_UP = "\n".join(
         row("", "as it is printed: 0.448 stands for 0.00000448 per psi"),
     ]
 )
+MOVE = """\
+Moves a file of run records, bytes without a header, from the short form to the long one, which counts pulses
+in thousandths; --back moves long records to the short form, exactly where every count is whole. A file holds
+{} to {:,} records, and each is judged as a job judges it. OLD stays as it is, NEW is written whole or not at
+all; forward and back again gives the same bytes. Nothing in a file says its form: the command does.
+
+The short form has 32 bytes: pulses (4), prover T, meter T (signed 2 each), prover P, meter P, prover CTL,
+meter CTL, prover F, meter F, prover Pe, meter Pe (2 each), zeros. The long one has 48: thousandths of a pulse
+(8), the short form's bytes 4 to 31, zeros. All little-endian.""".format(*fields.MOVED)
 BOOK = "\n".join(
     [
         "Works through a session and shows the book after each step: each shipper's reserve, ceiling and waiting",

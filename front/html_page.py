@@ -1,7 +1,6 @@
 """A page for print: one sheet of Letter or A4, one file, nothing fetched. It sets the same blocks as the plain text."""
 
 from string import Template
-from xml.sax.saxutils import escape
 
 from . import version
 from .html_fit import LONGEST_IN_HALF, PLOT, WIDTH, Parts, fit
@@ -150,7 +149,7 @@ def render(page, picture=None):
 <html lang="en">
 <head>
 <meta charset="utf-8">
-<meta name="generator" content="{escape(version.NAME)}">
+<meta name="generator" content="{words(version.NAME)}">
 <title>{words(page.title.capitalize())}</title>
 <style>{style}</style>
 </head>

@@ -23,13 +23,18 @@ def standard_input():
     return sys.stdin.buffer
 
 
-def octets_of(path):
-    """The file as it stands, read once; `-` is standard input."""
+def octets_to(path, most):
+    """So many bytes of a file at most, read once; `-` is standard input."""
     try:
         with contextlib.nullcontext(standard_input()) if path == "-" else open(path, "rb") as file:
-            octets = file.read(MOST_OCTETS + 1)
+            return file.read(most)
     except (OSError, ValueError) as fault:
         raise BadFile(path, "", f"cannot be read: {getattr(fault, 'strerror', None) or fault}") from fault
+
+
+def octets_of(path):
+    """The file as it stands."""
+    octets = octets_to(path, MOST_OCTETS + 1)
     if len(octets) > MOST_OCTETS:
         raise BadFile(NAMES.get(path, path), "", f"is larger than any job: expected at most {MOST_OCTETS:,} bytes")
     return octets

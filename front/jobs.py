@@ -3,17 +3,16 @@
 from dataclasses import replace
 from hashlib import sha256
 
-from . import channels, entry_files, fields, look_up_jobs
+from . import channels, fields, look_up_jobs, run_forms
 from .badfile import BadFile
+from .entries import entries_of, tables_of
 from .hints import echo, near, offer
 from .jobfiles import File, octets_of
-from .kinds import Draw, Entry, Live, Panel, Prover, Proving, Ticket
+from .kinds import Draw, Live, Panel, Prover, Proving, Ticket
 from .profiles import PROFILES, UNIDIRECTIONAL, says_bidirectional
-from .records import FILL_LAYOUT, LENGTH, RUN_LAYOUT
+from .records import FILL_LAYOUT
 from .tables import TOLD, Table, kind_of
 
-# Far more than any job may have; a line of the program holds them, so that the program refuses the job itself.
-MOST_ENTRIES = 4096
 # What tells the kind of a job: the tables that no other kind has.
 KIND_OF_TABLE = {"run": "prove", "runs": "prove", "fill": "draw", "fills": "draw"}
 KIND_OF_TABLE |= {"ticket": "ticket", "live": "live", "panel": "panel"}
@@ -69,30 +68,13 @@ def profile_of(top, table, heading):
     return PROFILES.get(name, UNIDIRECTIONAL)
 
 
-def entries_of(top, key, known, layout, homes, looked_up=frozenset()):
-    """The runs or fills; [every_run] holds what each has unless it says otherwise itself."""
-    shared = top.table(f"every_{key}", needed=False)
-    shared.only(known, homes)
-    common = {name: shared.count(each) for name, each in known.items() if name in shared.values}
-    listed = entry_files.tables(top, key, known) if f"{key}s" in top.values else top.tables(key, key)
-    if len(listed) > MOST_ENTRIES:
-        top.bad(key, f"{len(listed)} are more than a line of the program holds: expected at most {MOST_ENTRIES}")
-        return []
+def runs_of(top):
+    """The runs of a proving, and the form in which all of them are."""
+    shared, listed = tables_of(top, "run", fields.RUN, HOMES_OF_PROVING)
     for table in listed:
-        table.slipped |= shared.slipped
-        table.looked_up = looked_up
-    return [entry_of(table, common, known, layout, homes) for table in listed]
-
-
-def entry_of(table, common, known, layout, homes):
-    table.only([*known, "record"], homes)
-    if "record" in table.values:
-        if len(table.values) > 1:
-            table.bad("record", "expected alone: a record holds every field")
-        record = table.octets("record", LENGTH)
-        return Entry(layout.unpack(record), record)
-    counts = {name: table.count(each, common.get(name)) for name, each in known.items()}
-    return Entry(counts, layout.pack(counts))
+        table.looked_up = look_up_jobs.keys(top, "run")
+    form = run_forms.of([shared, *listed])
+    return entries_of(shared, listed, form.layout, form.in_hex), form
 
 
 def heading_of(top, of_top=()):
@@ -124,7 +106,7 @@ def proving_of(top):
         prover_of(top.table("prover"), PROVER, True, HOMES_OF_PROVING),
         meter.count(fields.K_FACTOR),
         top.count(fields.LIMIT, fields.HOUSE_LIMIT),
-        entries_of(top, "run", fields.RUN, RUN_LAYOUT, HOMES_OF_PROVING, look_up_jobs.keys(top, "run")),
+        *runs_of(top),
     )
     return replace(proving, look_up=look_up_jobs.of_runs(top, proving.runs))
 
@@ -133,7 +115,7 @@ def draw_of(top):
     top.only(["heading", "prover", "every_fill", "fill", "fills"], HOMES_OF_DRAW)
     table = top.table("prover")
     prover = prover_of(table, PROVER_OF_DRAW, False, HOMES_OF_DRAW)
-    fills = entries_of(top, "fill", fields.FILL, FILL_LAYOUT, HOMES_OF_DRAW)
+    fills = entries_of(*tables_of(top, "fill", fields.FILL, HOMES_OF_DRAW), FILL_LAYOUT)
     heading = heading_of(top)
     return Draw(top.file.path, heading, prover, fills, profile_of(top, table, heading))
 

@@ -72,7 +72,7 @@ def proving(worked):
     settings = prover(own.prover) | {"base_volume": figure(own.prover.base, BARREL)}
     settings["k_factor"] = figure(own.k_factor, fields.K_FACTOR.unit)
     settings["repeatability_limit"] = figure(own.limit, fields.LIMIT.unit)
-    runs = [read_figures(run.counts, fields.RUN) for run in own.runs]
+    runs = [read_figures(run.counts, own.form.fields) for run in own.runs]
     for run, told in zip(runs, worked.runs or ()):
         run |= told_figures(told, RUN_UNITS)
     told = {"request": own.request, "settings": settings, "runs": runs, **looked_up(own.look_up)}

@@ -6,7 +6,7 @@ from dataclasses import dataclass, replace
 from . import fields
 from .look_ups import LookUp
 from .profiles import UNIDIRECTIONAL, Profile
-from .records import RUN_LAYOUT
+from .records import SHORT, Form
 
 
 @dataclass(frozen=True)
@@ -40,10 +40,10 @@ class Entry:
     counts: dict
     record: bytes
 
-    def with_counts(self, found):
+    def with_counts(self, found, layout):
         """A run with what was found for it; one that looks nothing up keeps the record that it was given as."""
         counts = self.counts | found
-        return Entry(counts, RUN_LAYOUT.pack(counts)) if found else self
+        return Entry(counts, layout.pack(counts)) if found else self
 
 
 @dataclass(frozen=True)
@@ -55,6 +55,7 @@ class Proving:
     k_factor: int
     limit: int
     runs: list
+    form: Form = SHORT
     look_up: LookUp | None = None
     digest: str = ""
     files: tuple = ()
@@ -66,13 +67,14 @@ class Proving:
 
     def with_found(self, look_up):
         """The same with what was looked up in its runs."""
-        runs = [run.with_counts(look_up.counts(number)) for number, run in enumerate(self.runs, 1)]
+        layout = self.form.layout
+        runs = [run.with_counts(look_up.counts(number), layout) for number, run in enumerate(self.runs, 1)]
         return replace(self, look_up=look_up, runs=runs)
 
     @property
     def shown(self):
         """The fields of a run that its page and worksheet have."""
-        return fields.given(fields.RUN, [run.counts for run in self.runs])
+        return fields.given(self.form.fields, [run.counts for run in self.runs])
 
 
 @dataclass(frozen=True)

@@ -122,17 +122,19 @@ def grid(block):
     for start, (name, own) in zip(starts, block.groups):
         # A group is at least as wide as its name.
         widths[start] += max(0, len(name) - sum(widths[start : start + len(own)]) - len(own) + 1)
+    spans = [
+        name.center(sum(widths[at : at + len(own)]) + len(own) - 1) for at, (name, own) in zip(starts, block.groups)
+    ]
+    # The widest figures of all leave no room beside the bars.
+    bar, crossing = (" | ", "-+-") if len(INDENT + " | ".join(spans)) <= WIDTH else ("|", "+")
 
     def line(row):
         set_right = [cell.rjust(width) for cell, width in zip(row, widths)]
         parts = [" ".join(set_right[at : at + len(own)]) for at, (_, own) in zip(starts, block.groups)]
-        return (INDENT + " | ".join(parts)).rstrip()
+        return (INDENT + bar.join(parts)).rstrip()
 
-    spans = [
-        name.center(sum(widths[at : at + len(own)]) + len(own) - 1) for at, (name, own) in zip(starts, block.groups)
-    ]
-    over = [(INDENT + " | ".join(spans)).rstrip()] if any(name for name, _ in block.groups) else []
-    rule = [INDENT + "-+-".join("-" * len(span) for span in spans)]
+    over = [(INDENT + bar.join(spans)).rstrip()] if any(name for name, _ in block.groups) else []
+    rule = [INDENT + crossing.join("-" * len(span) for span in spans)]
     foot = [*rule, line(block.foot)] if block.foot else []
     return over + [line(row) for row in cells[:2]] + rule + [line(row) for row in block.rows] + foot
 

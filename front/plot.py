@@ -1,7 +1,7 @@
 """The run factors as a picture: SVG, drawn by hand. Only the places of marks are worked out here."""
 
+import html
 import re
-from xml.sax.saxutils import escape
 
 from . import page
 from .fields import LIMIT
@@ -16,7 +16,8 @@ UNTITLED = "Meter proving"
 
 def words(text):
     """A text as XML holds it: control characters have no place there."""
-    return escape(re.sub(r"[^\t\n\r\x20-\ud7ff\ue000-\ufffd\U00010000-\U0010ffff]", "?", text))
+    held = re.sub(r"[^\t\n\r\x20-\ud7ff\ue000-\ufffd\U00010000-\U0010ffff]", "?", text)
+    return html.escape(held, quote=False)
 
 
 def label(x, y, text, anchor="middle", size=15, extra=""):

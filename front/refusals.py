@@ -33,6 +33,7 @@ WORDS = {
     33: "no such pair",
     34: "fault code from a transmitter",
     35: "channel of the wrong kind",
+    36: "pulse count not whole",
 }
 
 

@@ -80,10 +80,10 @@ def settings(job):
     )
 
 
-def cell(key, run, figures):
-    if key in fields.RUN:
+def cell(key, run, figures, known):
+    if key in known:
         # An F that was not found has no count.
-        return shown(run.counts[key], fields.RUN[key].unit.places) if run.counts[key] is not None else ""
+        return shown(run.counts[key], known[key].unit.places) if run.counts[key] is not None else ""
     return shown(figures[key], BARREL.places if key in VOLUMES else FACTOR.places)
 
 
@@ -92,7 +92,7 @@ def table(job, figures, columns, accepted, foot=()):
     groups = [("", [("Run", ""), ("", "")]), *((name, [column[:2] for column in own]) for name, own in columns)]
     keys = [key for _, own in columns for *_, key in own]
     rows = [
-        [str(number), "*" if number in accepted else "", *(cell(key, run, own) for key in keys)]
+        [str(number), "*" if number in accepted else "", *(cell(key, run, own, job.form.fields) for key in keys)]
         for number, (run, own) in enumerate(zip(job.runs, figures), 1)
     ]
     return Grid(groups, rows, foot)

@@ -4,7 +4,7 @@ import struct
 
 from .fields import NUMBER, REQUEST, RUN_FACTOR, RUNS
 from .badfile import BadFile
-from .jobfiles import standard_input
+from .jobfiles import octets_to
 from .records import LENGTH
 from .refusals import Detail, Explained
 
@@ -14,13 +14,7 @@ LAYOUT = struct.Struct("<IHBB5H14s")
 
 def from_file(path):
     """A report has 32 bytes: one more tells that a file has too many."""
-    try:
-        if path == "-":
-            return standard_input().read(LENGTH + 1)
-        with open(path, "rb") as file:
-            return file.read(LENGTH + 1)
-    except OSError as fault:
-        raise BadFile(path, "", f"cannot be read: {fault.strerror}") from fault
+    return octets_to(path, LENGTH + 1)
 
 
 def from_hex(digits):

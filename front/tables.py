@@ -108,7 +108,7 @@ class Table:
             return None
         return value
 
-    def octets(self, key, length):
+    def octets(self, key, length, expected=""):
         """Bytes written as hex digits, spaces allowed; zeros where there are none to be had."""
         written = self.text(key)
         if written is None:
@@ -119,7 +119,7 @@ class Table:
             self.bad(key, "expected hex digits, two a byte")
             return bytes(length)
         if len(octets) != length:
-            self.bad(key, f"expected {length} bytes in hex, found {len(octets)}")
+            self.bad(key, f"expected {expected or f'{length} bytes in hex'}, found {len(octets)}")
             return bytes(length)
         return octets
 

@@ -55,7 +55,7 @@ temperature,gravity,F
 
 
 def row(field, value, before=""):
-    told = f" # {field.label}, {field.range}"
+    told = f" # {field.label}, {field.range}" + (f"; {field.note}" if field.note else "")
     if value is LEFT_OUT:
         return f"# {field.key} = {field.default}".ljust(WIDTH) + f"{told}: for a liquid that boils\n"
     return f"{before}{field.key} = {value}".ljust(WIDTH) + f"{told}\n"

@@ -18,10 +18,16 @@ def cpl(key, label, side, known):
     return Step(key, label, UNIT, how, f"ROUND(1000000000000/(100000000-{{{side}compressibility}}*{pressure}),0)")
 
 
+def indicated(pulses):
+    """In 0.0001 barrel, of pulses in ones or in thousandths, and K in 0.001 pulse per barrel."""
+    formula = f"ROUND({{pulses}}*1{'0' * (7 - pulses.unit.places)}/{{$k_factor}},0)"
+    return Step("indicated", "Indicated volume", VOLUME, "pulses / K", formula)
+
+
 def steps_of(known):
     """The steps of a run that has these fields."""
     return (
-        Step("indicated", "Indicated volume", VOLUME, "pulses / K", "ROUND({pulses}*10000000/{$k_factor},0)"),
+        indicated(known["pulses"]),
         Step(
             "cts", "Prover CTS", UNIT, "1 + (T - 60) x Gc",
             "ROUND((100000000+({prover_temperature}-600)*{$coefficient})/10000,0)",

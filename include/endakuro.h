@@ -11,7 +11,7 @@
  *            a star, and 0 elsewhere; every value is 0. Nothing is written into a lent buffer, and a book is
  *            left as it was.
  *
- *    1   lent records not whole, or too few or many      14  report buffer not 32 bytes
+ *    1   lent records not whole, or too few or many      14  report buffer not 32 bytes; a move's not in proportion
  *    2 * a byte that has no name is not zero             15  not a report
  *    3   prover setting out of range                     20  book not sound
  *    4   K factor or limit out of range                  21  unknown shipper
@@ -26,6 +26,7 @@
  *   13   reading, number for the panel, or number to     32 * table record faulty or out of order
  *        look up, out of range                           33  no such pair in the table
  *   34   fault code from a transmitter                   35  channel of the wrong kind
+ *   36 * pulse count not whole
  *
  * UNITS AND RANGES, whole numbers all of them. Outside its range a number is refused, never bent.
  *
@@ -42,6 +43,7 @@
  *   CTDW                               0.000001                   980000 to 1020000
  *   base and indicated volume          0.0001 barrel              1 to 100,000,000
  *   pulses                             one                        1 to 100,000,000
+ *   .. in a long run record            0.001                      1000 to 100,000,000,000
  *   K factor                           0.001 pulse per barrel     1 to 1,000,000,000
  *   repeatability limit                1 in 10,000                1 to 100 (the house's is 5)
  *   meter reading                      0.01 barrel                0 to 99,999,999
@@ -49,7 +51,7 @@
  *   runs in a job, passes and fills    one                        5 to 20, 3 to 20 and 3 to 60
  *   passes of a bidirectional prover   one                        6 to 20, an even number
  *   API gravity                        0.1 °API                   0 to 900
- *   records of a table                 one                        1 to 4,096
+ *   records of a table, or to be moved one                        1 to 4,096
  *
  * Every result is rounded once, to the unit that is named with it, halves upward. A live reading and a number for
  * the panel are rounded once too, each as it says; a number to look up goes to its nearest half degree.
@@ -57,9 +59,11 @@
  * BYTES are lent as a pointer and a length. The pointer is never NULL, also where the length is 0. Lent
  * records and a lent buffer do not overlap.
  *
- * RECORDS have 32 bytes each, those of a table 8, little-endian; bytes without a name are zero.
+ * RECORDS have 32 bytes each, long runs 48, those of a table 8, little-endian; bytes without a name are zero.
  *   Run:    0 pulses (4), 4 prover T (signed 2), 6 meter T (signed 2), 8 prover P, 10 meter P, 12 prover CTL,
  *           14 meter CTL, 16 prover F, 18 meter F, 20 prover Pe, 22 meter Pe (2 each)
+ *   Long run: 0 pulses in thousandths (8), then a run's bytes 4 to 31 at 8 to 35, so that T is at 8 and 10 and Pe at 24
+ *           and 26; zeros from 28 on
  *   Fill:   0 certified volume (4; 20,000 to 100,000,000 in 0.01 cubic inch), 4 scale reading (signed 2;
  *           -10000 to 10000 in 0.01 cubic inch), 6 prover T, 8 measure T (signed 2), 10 measure's
  *           coefficient (2), 12 CTDW (4), 16 pass (1), 18 pressure (2). Passes start at 1 and never go back
@@ -166,6 +170,12 @@ typedef struct EndakuroReport {
 EndakuroReport endakuro_prove(uint32_t request, EndakuroProver prover, uint32_t k, uint16_t limit,
                               const uint8_t *records, size_t records_length, uint8_t *buffer, size_t buffer_length);
 
+/* The same job of long run records, 48 bytes each: no record tells its form, the call does. The same runs get the same
+ * report, byte for byte. A count need not be whole: the indicated volume is the thousandths by K, rounded once. */
+EndakuroReport endakuro_prove_long(uint32_t request, EndakuroProver prover, uint32_t k, uint16_t limit,
+                                   const uint8_t *records, size_t records_length, uint8_t *buffer,
+                                   size_t buffer_length);
+
 /* A part of the lent records, in bytes; 0 and 0 where there is none. It has no number. */
 typedef struct EndakuroPart {
     size_t start;
@@ -175,6 +185,10 @@ typedef struct EndakuroPart {
 /* The five accepted run records of the same job, as the 160 bytes from `start`; none where it is refused. */
 EndakuroPart endakuro_accept(EndakuroProver prover, uint32_t k, uint16_t limit, const uint8_t *records,
                              size_t records_length);
+
+/* The same of long run records, as the 240 bytes from `start`. */
+EndakuroPart endakuro_accept_long(EndakuroProver prover, uint32_t k, uint16_t limit, const uint8_t *records,
+                                  size_t records_length);
 
 /* One run's figures: factors in 0.0001, volumes in 0.0001 barrel. */
 typedef struct EndakuroRun {
@@ -194,6 +208,27 @@ typedef struct EndakuroRun {
 
 /* One run by itself, from its 32 bytes. Refuses 1 (not 32 bytes), 3, 4 (K), then 5, 2, 7, 8 with record 1. */
 EndakuroRun endakuro_run(EndakuroProver prover, uint32_t k, const uint8_t *bytes, size_t bytes_length);
+
+/* One run from its long record. Refuses 1 (not 48 bytes), and the rest as endakuro_run. */
+EndakuroRun endakuro_run_long(EndakuroProver prover, uint32_t k, const uint8_t *bytes, size_t bytes_length);
+
+/* ---- Run records, moved from one form to the other ---- */
+
+typedef struct EndakuroMoved {
+    uint16_t number;
+    uint16_t record;
+    uint16_t count; /* how many records were moved */
+} EndakuroMoved;
+
+/* Run records, 1 to 4,096 of them, written into `buffer` as long ones: pulses by 1000, and nothing is lost. Refuses
+ * 14, unless twice the buffer's length is three times the records', exactly; then 1; then, records first to last, 5 and
+ * 2. Every record is judged before any byte is written: a refusal leaves every byte of `buffer`. */
+EndakuroMoved endakuro_forward(const uint8_t *records, size_t records_length, uint8_t *buffer, size_t buffer_length);
+
+/* Long run records written into `buffer` as short ones, exactly when every count is whole. Refuses 14, unless twice the
+ * records' length is three times the buffer's; then 1; then, records first to last, 5, 2 and 36. What was moved forward
+ * comes back as the bytes it was, and what was moved back goes forward as the bytes it was. */
+EndakuroMoved endakuro_back(const uint8_t *records, size_t records_length, uint8_t *buffer, size_t buffer_length);
 
 /* ---- The report record ---- */
 
@@ -548,6 +583,9 @@ ENDAKURO_AT(EndakuroPanel, record, 2);
 ENDAKURO_AT(EndakuroPanel, shown, 4);
 ENDAKURO_SIZE(EndakuroPanel, 8);
 
+ENDAKURO_AT(EndakuroMoved, record, 2);
+ENDAKURO_AT(EndakuroMoved, count, 4);
+ENDAKURO_SIZE(EndakuroMoved, 6);
 ENDAKURO_AT(EndakuroEntry, record, 2);
 ENDAKURO_AT(EndakuroEntry, temperature, 4);
 ENDAKURO_AT(EndakuroEntry, gravity, 6);

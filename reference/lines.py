@@ -9,6 +9,7 @@ import draw
 import group
 import live
 import lookup
+import moving
 import proving
 import ranges
 import report
@@ -16,8 +17,9 @@ import settings
 import ticket
 from factors import cpl, cps, cts
 from refusals import RECORD_FIELD, Refused
+from run_record import LONG, SHORT
 
-LONGEST = 524_288
+LONGEST = 1_048_576
 
 WHOLE = re.compile(rb"0|-?[1-9][0-9]*")
 BYTES = re.compile(rb"(?:[0-9a-f]{2})+")
@@ -96,6 +98,9 @@ def as_typed(word):
 CHANNEL = (as_typed, as_typed)  # two words, read together
 
 SETTINGS = (u8, u16, u32, u32, u32, u32)
+PROVE = (u32, *SETTINGS, u32, u16, octets, octets)
+RUNS = (*SETTINGS, u32, u16, octets)
+RUN = (*SETTINGS, u32, octets)
 WATER_DRAW = (*SETTINGS, octets)
 
 
@@ -151,25 +156,32 @@ def answer_cpl(*operands):
     return ok(cpl(*liquid, to_places))
 
 
-def answer_prove(request, *operands):
+def answer_prove(form, request, *operands):
     *prover, k_factor, limit, buffer, records = operands
     try:
         made = proving.prove(
-            request, settings.Settings(*prover), k_factor, limit, buffer, records
+            form, request, settings.Settings(*prover), k_factor, limit, buffer, records
         )
     except Refused as refusal:
         return refused(refusal, buffer)
     return ok(made.factor, made.first, made.runs, *made.factors, report.packed(made))
 
 
-def answer_runs(*operands):
+def answer_runs(form, *operands):
     *prover, k_factor, limit, records = operands
-    return ok(proving.accepted_runs(settings.Settings(*prover), k_factor, limit, records))
+    return ok(proving.accepted_runs(form, settings.Settings(*prover), k_factor, limit, records))
 
 
-def answer_run(*operands):
+def answer_run(form, *operands):
     *prover, k_factor, record = operands
-    return ok(*proving.one_run(settings.Settings(*prover), k_factor, record))
+    return ok(*proving.one_run(form, settings.Settings(*prover), k_factor, record))
+
+
+def answer_moved(way, buffer, records):
+    try:
+        return ok(way(buffer, records))
+    except Refused as refusal:
+        return refused(refusal, buffer)
 
 
 def answer_draw(rule, *operands):
@@ -286,9 +298,14 @@ ENTRIES = {
     b"cts": ((i16, u8, u16, places), answer_cts),
     b"cps": ((u16, u32, u32, u32, places), answer_cps),
     b"cpl": ((u16, u16, u16, places), answer_cpl),
-    b"prove": ((u32, *SETTINGS, u32, u16, octets, octets), answer_prove),
-    b"runs": ((*SETTINGS, u32, u16, octets), answer_runs),
-    b"run": ((*SETTINGS, u32, octets), answer_run),
+    b"prove": (PROVE, partial(answer_prove, SHORT)),
+    b"runs": (RUNS, partial(answer_runs, SHORT)),
+    b"run": (RUN, partial(answer_run, SHORT)),
+    b"prove_long": (PROVE, partial(answer_prove, LONG)),
+    b"runs_long": (RUNS, partial(answer_runs, LONG)),
+    b"run_long": (RUN, partial(answer_run, LONG)),
+    b"forward": ((octets, octets), partial(answer_moved, moving.forward)),
+    b"back": ((octets, octets), partial(answer_moved, moving.back)),
     b"draw": (WATER_DRAW, partial(answer_draw, draw.draw)),
     b"fill": ((u8, u16, octets), answer_fill),
     b"passes": (WATER_DRAW, partial(answer_volumes, draw.passes)),

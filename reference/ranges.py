@@ -1,6 +1,7 @@
 """Units and ranges (01, Units and ranges; Ticket; Records), both ends inside; what a liquid's
 pressure may be (02, Liquids that boil), how many passes (02, Bidirectional provers), and what a
-table of compressibilities holds (02, Look up compressibility)."""
+table of compressibilities and a file of run records hold (02, Look up compressibility; Longer run
+records, and the way back)."""
 
 
 def span(first, last):
@@ -20,7 +21,7 @@ CTL = span(5000, 15000)  # 0.0001
 RUN_FACTOR = span(8000, 12000)  # 0.0001
 CTDW = span(980000, 1020000)  # 0.000001
 VOLUME = span(1, 100_000_000)  # 0.0001 barrel, base and indicated
-PULSES = span(1, 100_000_000)
+PULSE_THOUSANDTHS = span(1000, 100_000_000_000)  # 1 to 100,000,000 pulses
 K_FACTOR = span(1, 1_000_000_000)  # 0.001 pulse per barrel
 LIMIT = span(1, 100)  # 1 in 10,000
 RUNS = span(5, 20)
@@ -33,6 +34,7 @@ METER_READING = span(0, 99_999_999)  # 0.01 barrel
 SEDIMENT_AND_WATER = span(0, 100_000)  # 0.001 %
 GRAVITY = span(0, 900)  # 0.1 °API
 TABLE_RECORDS = span(1, 4096)
+MOVED_RECORDS = span(1, 4096)
 
 
 def liquid_stands(pressure, compressibility, equilibrium):

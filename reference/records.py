@@ -1,5 +1,5 @@
 """Lent records: "All 32 bytes, little-endian, no header; bytes not named are zero"; those of the
-compressibility table have a length of their own."""
+compressibility table and long run records have lengths of their own."""
 
 from refusals import RECORDS_NOT_WHOLE, Refused
 

@@ -1,4 +1,4 @@
-"""The numbers given back (01, Numbers given back; 02 adds 30 to 35)."""
+"""The numbers given back (01, Numbers given back; 02 adds 30 to 36)."""
 
 
 class Refused(Exception):
@@ -23,7 +23,7 @@ TICKET_FIELD = 10
 CLOSING_BELOW_OPENING = 11
 NOT_FINITE = 12
 READING_RANGE = 13
-BUFFER_NOT_32 = 14
+BUFFER_LENGTH = 14
 NOT_A_REPORT = 15
 BOOK_NOT_SOUND = 20
 UNKNOWN_SHIPPER = 21
@@ -39,3 +39,4 @@ TABLE_RECORD = 32
 NO_SUCH_PAIR = 33
 FAULT_CODE = 34
 WRONG_KIND = 35
+COUNT_NOT_WHOLE = 36

@@ -5,7 +5,7 @@ from collections import namedtuple
 
 import ranges
 from group import mean
-from refusals import BUFFER_NOT_32, NOT_A_REPORT, NUMBER_ZERO, Refused
+from refusals import BUFFER_LENGTH, NOT_A_REPORT, NUMBER_ZERO, Refused
 
 LENGTH = 32
 
@@ -19,7 +19,7 @@ Report = namedtuple("Report", "request factor first runs factors")
 
 def judge_buffer(buffer):
     if len(buffer) != LENGTH:
-        raise Refused(BUFFER_NOT_32)
+        raise Refused(BUFFER_LENGTH)
 
 
 def judge_request(request):

@@ -1,6 +1,6 @@
 """The C face: the header as C11 and C++17, its declarations against the Rattle source, every function through the linked archive
-beside the line program, every number of the panel beside the reference and back, channels that no line can say, rounded quotients beside
-whole numbers of any length, and the examples.
+beside the line program, every number of the panel beside the reference and back, channels that no line can say, run records moved between
+their forms, rounded quotients beside whole numbers of any length, and the examples.
 
 Run: python3 tests/c_face.py [--lines N] [--seed S]     once `rt check endakuro` has built the line program
 """
@@ -26,9 +26,11 @@ LINE_PROGRAM = [str(ROOT / "tests" / "endakuro")]
 # Entries of the line program that the C face has not.
 OTHERS = {"spread"}
 RUN = str(ROOT / "tests" / "c" / "run")
-EXAMPLES = ("skid", "round_trips", "agreement", "compressibility", "transmitters")
+EXAMPLES = ("skid", "round_trips", "agreement", "compressibility", "transmitters", "interpolation")
 # Patterns of a single's bits that are no finite number, in each of the three kinds that carry one.
 NOT_FINITE = 3 * 2**24
+# Every two lengths up to four long records and a bit, moved either way.
+LENGTHS = 2 * (4 * 48 + 3 + 1) ** 2
 
 ONLY_HEADER = b"#include <endakuro.h>\n"
 STRICT = ["-Wall", "-Wextra", "-Wpedantic", "-Werror"]
@@ -123,6 +125,13 @@ def channels():
     return int(calls) > NOT_FINITE and int(different) == 0
 
 
+def moving():
+    """Every two small lengths, files of more records than any line holds, and every two faults of a record: the answer, each byte of the
+    buffer, the records and what stands beside both."""
+    calls, _, different = counted("moving", "run records moved").partition(b" calls; differences ")
+    return int(calls) > LENGTHS and int(different) == 0
+
+
 def quotients(seed):
     """Rounded quotients, which no line has: every length of a divisor, every correction of a digit, every side of a half."""
     asked = ratios.ratios(seed)
@@ -149,13 +158,13 @@ def example(name):
 
 def main():
     options = argparse.ArgumentParser(description="Test the C face.")
-    options.add_argument("--lines", type=int, default=66_000)
+    options.add_argument("--lines", type=int, default=72_000)
     options.add_argument("--seed", type=int, default=2)
     chosen = options.parse_args()
     try:
         held = [header()]
         program = build("lines", "tests/c/lines.c")
-        held += [lines(program, chosen.lines, chosen.seed), panel(program), way_back(), channels(), quotients(chosen.seed)]
+        held += [lines(program, chosen.lines, chosen.seed), panel(program), way_back(), channels(), moving(), quotients(chosen.seed)]
         held += [example(name) for name in EXAMPLES]
     except Stopped as stop:
         print(f"C face: stopped, {stop}")

@@ -1,24 +1,28 @@
 """The comparison: the program under test and the reference answer the same lines.
 
 Run: python3 tests/compare.py --program CMD [--lines N] [--seed S] [--told DIR]
-     python3 tests/compare.py --self          the reference beside itself: do the cases reach all?
-     python3 tests/compare.py --ahead DIR     the reference's answers alone, kept for --told DIR
+     python3 tests/compare.py --self          the reference alone: do the cases reach all?
+     python3 tests/compare.py --ahead DIR     the same, lines and answers kept for --told DIR
 
 Ends with 0 exactly when no answer differs and every entry and number was reached, each place where
-an equilibrium pressure can stand, every kind of bidirectional draw, look-up, channels and book
-call, channels beside `live`, and all that the panel can be shown.
+an equilibrium pressure can stand, every kind of bidirectional draw, look-up, channels, job in the
+longer form, move and book call, channels beside `live`, jobs beside the same in the longer form,
+files moved there and back, and all that the panel can be shown.
 """
 
 import argparse
 import sys
 from collections import Counter
 from concurrent.futures import ThreadPoolExecutor
-from itertools import islice
+from itertools import cycle, islice
 
 import channel_kinds
 import draw_kinds
+import long_kinds
 import lookup_kinds
+import move_kinds
 from beside_live import BesideLive
+from beside_short import BesideShort
 from book_kinds import BookKinds
 from cases import cases
 from cases.grammar import NAMES
@@ -26,6 +30,7 @@ from outcomes import BAD, NONE, OK, outcome, record_of
 from programs import REFERENCE, Stopped, command, is_silent, run
 from shown import Shown
 from standings import ACCEPTED, FAULTY, SIDES, standings
+from there_and_back import ThereAndBack
 from told import Told
 
 BATCH = 10_000
@@ -40,6 +45,11 @@ REACHES = {
     "prove": (OK, 14, 22, 1, 3, 4, 5, 2, 7, 8, 9),
     "runs": (OK, NONE),
     "run": (OK, 1, 3, 4, 5, 2, 7, 8),
+    "prove_long": (OK, 14, 22, 1, 3, 4, 5, 2, 7, 8, 9),
+    "runs_long": (OK, NONE),
+    "run_long": (OK, 1, 3, 4, 5, 2, 7, 8),
+    "forward": (OK, 14, 1, 5, 2),
+    "back": (OK, 14, 1, 5, 2, 36),
     "draw": (OK, 1, 3, 5, 2, 6, 9),
     "fill": (OK, 1, 3, 5, 2),
     "passes": (OK, 1, 3, 5, 2, 6),
@@ -68,12 +78,15 @@ REACHES = {
 # What a line of these entries reaches is told from the line alone.
 TOLD_BY_LINE = {
     entry: kinds
-    for kinds in (draw_kinds, lookup_kinds, channel_kinds)
+    for kinds in (draw_kinds, lookup_kinds, channel_kinds, long_kinds, move_kinds)
     for entry in kinds.ENTRIES
 }
 
 # What each entry answers where P is below Pe.
-BELOW_EQUILIBRIUM = {"cpl": 5, "ticket": 10, "prove": 5, "runs": NONE, "run": 5}
+BELOW_EQUILIBRIUM = {
+    **{"cpl": 5, "ticket": 10, "prove": 5, "runs": NONE, "run": 5},
+    **{"prove_long": 5, "runs_long": NONE, "run_long": 5, "forward": 5, "back": 5},
+}
 
 
 def entry_of(line):
@@ -87,62 +100,50 @@ def short(octets):
     return text if len(text) <= WIDTH else f"{text[:WIDTH]}.. ({len(octets)} bytes)"
 
 
+# Every second batch ends with an LF, half of the others with a CR.
+ENDS = (b"", b"\n", b"\r", b"\n")
+
+
 def batches(stream):
-    """Lines by the batch, and as they are given: every second batch ends without its LF, half of
-    these with a CR."""
-    turn = 0
-    while lines := list(islice(stream, BATCH)):
-        if turn % 4 == 2:
-            lines[-1] += b"\r"
-        yield lines, b"\n".join(lines) + (b"\n" if turn % 2 else b"")
-        turn += 1
+    """Lines by the batch, as they are given."""
+    for end in cycle(ENDS):
+        lines = list(islice(stream, BATCH))
+        if not lines:
+            return
+        yield b"\n".join(lines) + end
 
 
-class Comparison:
-    def __init__(self, program, told, keep):
-        self.program = program
-        self.told = told
-        self.keep = keep
-        self.lines = 0
+def lines_of(turn, given):
+    """The lines of a batch: one that ends with an LF has no further line."""
+    return given.removesuffix(b"\n" if turn % 2 else b"").split(b"\n")
+
+
+class Reached:
+    """What the lines reach, told by the reference's answers."""
+
+    def __init__(self):
         self.reached = Counter()
         self.stood = Counter()
         self.kinds = Counter()
         self.booked = BookKinds()
         self.shown = Shown()
         self.beside_live = BesideLive()
-        self.differences = 0
+        self.beside_short = BesideShort()
+        self.there_and_back = ThereAndBack()
 
-    def batch(self, lines, given):
-        with ThreadPoolExecutor(2) as both:
-            expected = both.submit(self.told.answers, given)
-            found = both.submit(run, self.program, given)
-        (reference, reference_stopped), (tested, stopped) = expected.result(), found.result()
-        if reference_stopped:
-            raise Stopped(reference_stopped)
-        asked = [(at, line) for at, line in enumerate(lines) if not is_silent(line)]
-        if len(reference) != len(asked):
-            raise Stopped(f"the reference gave {len(reference)} answers to {len(asked)} lines")
+    def batch(self, answered):
         self.booked.begin()
-        for place, (at, line) in enumerate(asked):
-            expected = reference[place]
-            self.reach(line, expected)
-            found = tested[place] if place < len(tested) else b"(no answer)"
-            if found != expected:
-                self.differ(lines, at, expected, found)
-        if len(tested) != len(asked):
-            print(f"the program gave {len(tested)} answers to {len(asked)} lines")
-        if len(tested) > len(asked):
-            self.differ(lines, len(lines) - 1, b"(no further answer)", tested[len(asked)])
-        if stopped:
-            raise Stopped(stopped)
-        self.lines += len(lines)
+        for line, answer in answered:
+            self.take(line, answer)
 
-    def reach(self, line, answer):
+    def take(self, line, answer):
         entry, what = entry_of(line), outcome(answer)
         self.reached[entry, what] += 1
         self.booked.take(entry, line, what, answer)
         self.shown.take(entry, line, answer)
         self.beside_live.take(entry, line, answer)
+        self.beside_short.take(entry, line, answer)
+        self.there_and_back.take(entry, line, answer)
         if what != BAD:
             for side, where in standings(entry, line, record_of(answer)):
                 self.stood[entry, side, where, what] += 1
@@ -150,19 +151,7 @@ class Comparison:
             for kind in {*TOLD_BY_LINE[entry].reached(line.removesuffix(b"\r"))}:
                 self.kinds[entry, what, kind] += 1
 
-    def differ(self, lines, at, expected, found):
-        self.differences += 1
-        if self.differences > SHOWN:
-            return
-        print(f"line {self.lines + at + 1}: {short(lines[at])}")
-        print(f"  reference {short(expected)}")
-        print(f"  program   {short(found)}")
-        if self.keep and self.differences == 1:
-            with open(self.keep, "wb") as kept:
-                kept.write(b"\n".join(lines[: at + 1]) + b"\n")
-            print(f"  the lines up to it are in {self.keep}")
-
-    def never_reached(self):
+    def missing(self):
         missing = [
             f"{entry} {what}"
             for entry, answers in REACHES.items()
@@ -188,6 +177,8 @@ class Comparison:
         missing += self.booked.missing()
         missing += self.shown.missing()
         missing += self.beside_live.missing()
+        missing += self.beside_short.missing(REACHES)
+        missing += self.there_and_back.missing()
         return missing
 
     def summary(self):
@@ -202,48 +193,110 @@ class Comparison:
         told = " ".join(f"{number}:{numbers[number]}" for number in sorted(numbers))
         taken = " ".join(f"{entry}:{accepted[entry]}" for entry in REACHES)
         return (
-            f"compare: {self.lines} lines, {sum(self.reached.values())} answers;"
-            f" refused {told}; bad lines {bad}; accepted {taken};"
-            f" differences {self.differences}"
+            f"{sum(self.reached.values())} answers; refused {told};"
+            f" bad lines {bad}; accepted {taken}"
         )
 
 
-def keep_ahead(asked, told):
-    told.folder.mkdir(exist_ok=True)
-    for _, given in asked:
-        told.keep(given)
-    return 0
+class WorkedOut:
+    """Lines made, and the reference asked, batch by batch; as `Told` has what was kept."""
+
+    def __init__(self, seed, count):
+        self.cases = cases(seed, count)
+        self.kinds = Reached()
+
+    def given(self):
+        return batches(self.cases)
+
+    def answers(self, turn, given):
+        answers, stopped = run(REFERENCE, given)
+        if stopped:
+            raise Stopped(stopped)
+        asked = [line for line in lines_of(turn, given) if not is_silent(line)]
+        if len(answers) != len(asked):
+            raise Stopped(f"the reference gave {len(answers)} answers to {len(asked)} lines")
+        self.kinds.batch(zip(asked, answers))
+        return answers
+
+    def reached(self):
+        return self.kinds.summary(), self.kinds.missing()
+
+
+class Comparison:
+    """The program under test beside the reference's answers."""
+
+    def __init__(self, keep):
+        self.keep = keep
+        self.lines = 0
+        self.differences = 0
+
+    def batch(self, lines, reference, tested, stopped):
+        asked = [(at, line) for at, line in enumerate(lines) if not is_silent(line)]
+        for place, ((at, _), expected) in enumerate(zip(asked, reference, strict=True)):
+            found = tested[place] if place < len(tested) else b"(no answer)"
+            if found != expected:
+                self.differ(lines, at, expected, found)
+        if len(tested) != len(asked):
+            print(f"the program gave {len(tested)} answers to {len(asked)} lines")
+        if len(tested) > len(asked):
+            self.differ(lines, len(lines) - 1, b"(no further answer)", tested[len(asked)])
+        if stopped:
+            raise Stopped(stopped)
+        self.lines += len(lines)
+
+    def differ(self, lines, at, expected, found):
+        self.differences += 1
+        if self.differences > SHOWN:
+            return
+        print(f"line {self.lines + at + 1}: {short(lines[at])}")
+        print(f"  reference {short(expected)}")
+        print(f"  program   {short(found)}")
+        if self.keep and self.differences == 1:
+            with open(self.keep, "wb") as kept:
+                kept.write(b"\n".join(lines[: at + 1]) + b"\n")
+            print(f"  the lines up to it are in {self.keep}")
+
+
+def compare(chosen):
+    folder = chosen.ahead or chosen.told
+    told = Told(folder, chosen.seed, chosen.lines) if folder else None
+    is_kept = chosen.told and told.is_whole
+    source = told if is_kept else WorkedOut(chosen.seed, chosen.lines)
+    comparison = Comparison(chosen.keep)
+    for turn, given in enumerate(source.given()):
+        with ThreadPoolExecutor(2) as both:
+            expected = both.submit(source.answers, turn, given)
+            found = both.submit(run, chosen.program, given) if chosen.program else None
+        if chosen.ahead:
+            told.keep(turn, given, expected.result())
+        answers = found.result() if found else (expected.result(), None)
+        comparison.batch(lines_of(turn, given), expected.result(), *answers)
+        print(f"{comparison.lines} of {chosen.lines} lines", file=sys.stderr, flush=True)
+    summary, missing = source.reached()
+    if chosen.ahead:
+        told.finish(summary, missing)
+    print(f"compare: {comparison.lines} lines, {summary}; differences {comparison.differences}")
+    if missing:
+        print(f"never reached: {', '.join(missing)}")
+    return 1 if missing or comparison.differences else 0
 
 
 def main():
     options = argparse.ArgumentParser(description="Compare a program with the reference.")
     which = options.add_mutually_exclusive_group(required=True)
     which.add_argument("--program", type=command, help="the command of the program under test")
-    which.add_argument("--self", action="store_true", help="the reference beside itself")
-    which.add_argument("--ahead", metavar="DIR", help="keep the reference's answers, for --told")
+    which.add_argument("--self", action="store_true", help="the reference alone")
+    which.add_argument("--ahead", metavar="DIR", help="the reference alone, kept for --told")
     options.add_argument("--lines", type=int, default=110_000)
     options.add_argument("--seed", type=int, default=1)
-    options.add_argument("--told", metavar="DIR", help="where the reference's answers may be kept")
+    options.add_argument("--told", metavar="DIR", help="where --ahead may have kept what it told")
     options.add_argument("--keep", help="a file for the lines up to the first difference")
     chosen = options.parse_args()
-
-    asked = batches(cases(chosen.seed, chosen.lines))
-    if chosen.ahead:
-        return keep_ahead(asked, Told(chosen.ahead))
-    program = REFERENCE if chosen.self else chosen.program
-    comparison = Comparison(program, Told(chosen.told), chosen.keep)
     try:
-        for lines, given in asked:
-            comparison.batch(lines, given)
-            print(f"{comparison.lines} of {chosen.lines} lines", file=sys.stderr, flush=True)
+        return compare(chosen)
     except Stopped as stop:
         print(f"compare: stopped, {stop}")
         return 1
-    print(comparison.summary())
-    missing = comparison.never_reached()
-    if missing:
-        print(f"never reached: {', '.join(missing)}")
-    return 1 if missing or comparison.differences else 0
 
 
 if __name__ == "__main__":

@@ -1,12 +1,13 @@
 """The figures to hold against (01), 000's propane, 003's bidirectional prover, the ends of what
-shippers may agree on, of what can be looked up and of what transmitters send (02): each through the
-line program.
+shippers may agree on, of what can be looked up, of what transmitters send and of longer run records
+(02): each through the line program.
 
 Run: python3 tests/figures.py [--program CMD]
 """
 
 import argparse
 import sys
+from dataclasses import replace
 from itertools import islice, product
 
 from cases.channel_shapes import (
@@ -22,7 +23,7 @@ from cases.channel_shapes import (
 )
 from cases.lookup_shapes import GRAVITIES, TEMPERATURES, LookUp, Row
 from cases.plain import plain_job
-from cases.shapes import Draw, Fill, Job, Prover, Report, Run, line
+from cases.shapes import Draw, Fill, Job, LongRun, Prover, Report, Run, line
 from cases.singles import bits, reading
 from programs import REFERENCE, Stopped, answers_of, command
 from worked import WorkedDraws
@@ -43,21 +44,28 @@ def factor_figures():
     yield "a certificate wins over the name", line("cts", 1600, 0, 250, 6), "ok 1002500"
 
 
+THE_RUN = Run(200_000, 735, 735, 40, 40, 9907, 9908, 820, 820)
+ITS_FIGURES = "ok 200000 10003 10000 10003 9913 10003 9911 198260 198220 10002"
+
+
 def run_figure():
-    job = Job((Run(200_000, 735, 735, 40, 40, 9907, 9908, 820, 820),), Prover(base=200_000))
-    yield "the run", job.run(), "ok 200000 10003 10000 10003 9913 10003 9911 198260 198220 10002"
+    yield "the run", Job((THE_RUN,), Prover(base=200_000)).run(), ITS_FIGURES
+
+
+PROPANE = Run(28631, 770, 765, 385, 395, 9780, 9789, 2850, 2850, 115, 115)
+PROPANE_FIGURES = "ok 21710 10003 10004 10078 9863 10080 9867 20450 21421 9547"
+
+
+def proved_propane(run):
+    return Job((run,), Prover(inside=12000, wall=375, base=20734), 13_188_000)
 
 
 def propane_figures():
     """Figure 6 of 000; who forgets the equilibrium pressure of 115 psi finds 0.9545."""
-
-    def told(equilibrium):
-        pressures = (equilibrium, equilibrium)
-        run = Run(28631, 770, 765, 385, 395, 9780, 9789, 2850, 2850, *pressures)
-        return Job((run,), Prover(inside=12000, wall=375, base=20734), 13_188_000).run()
-
-    yield "propane", told(115), "ok 21710 10003 10004 10078 9863 10080 9867 20450 21421 9547"
-    yield "Pe forgotten", told(0), "ok 21710 10003 10004 10111 9895 10114 9901 20516 21495 9545"
+    yield "propane", proved_propane(PROPANE).run(), PROPANE_FIGURES
+    forgotten = replace(PROPANE, prover_equilibrium_pressure=0, meter_equilibrium_pressure=0)
+    told = "ok 21710 10003 10004 10111 9895 10114 9901 20516 21495 9545"
+    yield "Pe forgotten", proved_propane(forgotten).run(), told
 
 
 def group_figures():
@@ -288,6 +296,109 @@ def channel_figures():
         yield f"{name}, before {later}", sent(one, other), f"refused {number} 0"
 
 
+def longer_figures():
+    """"The same runs get the same report", and "Indicated volume divides the thousandths by K and
+    rounds once"; "1000 to 100,000,000,000"."""
+    the_run = Job((THE_RUN,), Prover(base=200_000)).long
+    yield "the run in the longer form", the_run.run(), ITS_FIGURES
+    yield "propane in the longer form", proved_propane(PROPANE).long.run(), PROPANE_FIGURES
+    six = plain_job((10010, 10000, 10001, 10002, 10003, 10005)).long
+    report = "070000001227020610271127122713271527" + "00" * 14
+    told = f"ok 10002 2 6 10000 10001 10002 10003 10005 {report}"
+    yield "the group in the longer form", six.prove, told
+    yield "its 240 bytes", six.accepted, f"ok {six.records[48:].hex()}"
+    more = the_run.with_run(0, pulses=200_000_499)
+    yield "less than half a pulse more", more.run(), ITS_FIGURES
+    more = the_run.with_run(0, pulses=200_000_500)
+    told = "ok 200001 10003 10000 10003 9913 10003 9911 198260 198221 10002"
+    yield "half a pulse more", more.run(), told
+    for count, k_factor, volume in ((1000, 1000, 10_000), (10**11, 10**9, 1_000_000)):
+        job = Job((LongRun(count),), Prover(base=volume), k_factor, form=LongRun)
+        ones = " ".join(["10000"] * 6)
+        yield f"{count} thousandths", job.run(), f"ok {volume} {ones} {volume} {volume} 10000"
+    for count in (0, 999, 10**11 + 1, 2**63, 2**64 - 1):
+        yield f"{count} thousandths", the_run.with_run(0, pulses=count).run(), "refused 5 1"
+    yield "32 bytes", line("run_long", *Prover().words, 10_000_000, "00" * 32), "refused 1 0"
+
+
+# The run and propane in both forms, by hand.
+SHORT = "400d0300df02df0228002800b326b42634033403" + "00" * 12
+LONG = "00c2eb0b00000000df02df0228002800b326b42634033403" + "00" * 24
+SHORT_PROPANE = "d76f00000203fd0281018b0134263d26220b220b73007300" + "00" * 8
+LONG_PROPANE = "d8dfb401000000000203fd0281018b0134263d26220b220b73007300" + "00" * 20
+
+
+def moving_figures():
+    """"Forward then back gives the old bytes; back then forward, where allowed, the new ones"."""
+    yield "the run forward", line("forward", "ff" * 48, SHORT), f"ok {LONG}"
+    yield "the run back", line("back", "ff" * 32, LONG), f"ok {SHORT}"
+    yield "propane forward", line("forward", "ff" * 48, SHORT_PROPANE), f"ok {LONG_PROPANE}"
+    yield "propane back", line("back", "ff" * 32, LONG_PROPANE), f"ok {SHORT_PROPANE}"
+    both = line("forward", "5a" * 96, SHORT_PROPANE + SHORT)
+    yield "both forward", both, f"ok {LONG_PROPANE}{LONG}"
+    both = line("back", "5a" * 64, LONG + LONG_PROPANE)
+    yield "both back", both, f"ok {SHORT}{SHORT_PROPANE}"
+    yield "4,096 forward", line("forward", "5a" * 196_608, SHORT * 4096), f"ok {LONG * 4096}"
+    yield "4,096 back", line("back", "5a" * 131_072, LONG * 4096), f"ok {SHORT * 4096}"
+
+
+def moving_lengths():
+    """"14, first of all, unless twice the longer form's buffer length is three times the shorter
+    form's"; then 1 for "1 to 4,096 records"."""
+    for way, lent, lengths in (
+        ("forward", SHORT, (0, 32, 47, 49, 72, 96)),
+        ("back", LONG, (0, 31, 33, 48, 64)),
+        ("forward", "", (1, 2, 48)),
+        ("back", "", (1, 2, 32)),
+        ("forward", SHORT[2:], (46, 47, 48)),
+        ("back", LONG[2:], (30, 31, 32)),
+    ):
+        for length in lengths:
+            left = "5a" * length or "-"
+            yield f"{length} bytes", line(way, left, lent or "-"), f"refused 14 0 {left}"
+    for way, buffer, lent in (
+        *(("forward", 0, 0), ("forward", 3, 2), ("forward", 24, 16), ("forward", 51, 34)),
+        *(("back", 0, 0), ("back", 2, 3), ("back", 16, 24), ("back", 34, 51)),
+        *(("forward", 48 * 4097, 32 * 4097), ("back", 32 * 4097, 48 * 4097)),
+    ):
+        left = "5a" * buffer or "-"
+        yield f"{lent} bytes", line(way, left, "00" * lent or "-"), f"refused 1 0 {left}"
+
+
+def moving_faults():
+    """"Moving checks fields and zeros as a job does (1, 5, 2); 36 with the record, after its 2,
+    where the count isn't whole"."""
+    run = LongRun(200_000_000)
+
+    def records(*changes):
+        return b"".join(replace(run, **change).packed for change in changes).hex()
+
+    hot, marred = {"meter_temperature": 2001}, {"unnamed": bytes(19) + b"\x01"}
+    part = {"pulses": 200_000_001}
+    for name, told, changes in (
+        ("a field", "5 1", (hot, part)),
+        ("an unnamed byte", "2 2", ({}, marred)),
+        ("a thousandth too many", "36 2", ({}, part)),
+        ("5 before 2 and 36", "5 2", ({}, hot | marred | part)),
+        ("2 before 36", "2 1", (marred | part, hot)),
+        ("36 of an earlier record", "36 1", (part, hot, marred)),
+        ("2 of an earlier record", "2 1", (marred, hot, part)),
+        ("the least count, and less", "5 2", ({"pulses": 1000}, {"pulses": 999})),
+        ("the largest count, and more", "5 2", ({"pulses": 10**11}, {"pulses": 10**11 + 1000})),
+        ("not whole by its lower word alone", "36 2", ({}, {"pulses": 2**32 + 1000})),
+    ):
+        left = "5a" * 32 * len(changes)
+        yield name, line("back", left, records(*changes)), f"refused {told} {left}"
+    for name, number, change in (
+        ("no pulses", 5, {"pulses": 0}),
+        ("100,000,001 pulses", 5, {"pulses": 100_000_001}),
+        ("byte 31", 2, {"unnamed": bytes(7) + b"\x01"}),
+        ("P below Pe", 5, {"meter_equilibrium_pressure": 41}),
+    ):
+        lent, left = SHORT + replace(THE_RUN, **change).packed.hex() + "ff" * 32, "5a" * 144
+        yield name, line("forward", left, lent), f"refused {number} 2 {left}"
+
+
 PARTS = (
     factor_figures,
     run_figure,
@@ -304,6 +415,10 @@ PARTS = (
     look_up_faults,
     celsius_figures,
     channel_figures,
+    longer_figures,
+    moving_figures,
+    moving_lengths,
+    moving_faults,
 )
 
 

@@ -5,7 +5,7 @@ import subprocess
 import sys
 from pathlib import Path
 
-LONGEST = 524_288
+LONGEST = 1_048_576
 REFERENCE = [sys.executable, str(Path(__file__).parents[1] / "reference" / "endakuro.py")]
 
 

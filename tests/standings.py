@@ -4,23 +4,21 @@ import struct
 
 from cases.ends import PRESSURE
 
-ALONE, PROVER, METER = "liquid", "prover", "meter"
-SIDES = {
-    "cpl": (ALONE,),
-    "ticket": (ALONE,),
-    "prove": (PROVER, METER),
-    "runs": (PROVER, METER),
-    "run": (PROVER, METER),
+# the pressures of prover and meter are at bytes 8 and 10 of a run record, in the longer form at 12
+# and 14, the equilibrium pressures at 20 and 22, or 24 and 26
+SHORT_RUN, LONG_RUN = struct.Struct("<8xHH8xHH8x"), struct.Struct("<12xHH8xHH20x")
+RECORDS = {
+    **dict.fromkeys(("prove", "runs", "run", "forward"), SHORT_RUN),
+    **dict.fromkeys(("prove_long", "runs_long", "run_long", "back"), LONG_RUN),
 }
+
+ALONE, PROVER, METER = "liquid", "prover", "meter"
+SIDES = {"cpl": (ALONE,), "ticket": (ALONE,), **dict.fromkeys(RECORDS, (PROVER, METER))}
 
 NONE, BELOW, AT = "Pe 0", "Pe below P", "Pe at P"
 ABOVE, BEYOND = "Pe above P", "Pe above 1500"
 ACCEPTED = (NONE, BELOW, AT)
 FAULTY = (ABOVE, BEYOND)
-
-LENGTH = 32
-# the pressures of prover and meter are at bytes 8 and 10, the equilibrium pressures at 20 and 22
-RUN = struct.Struct("<8xHH8xHH8x")
 
 
 def standing(pressure, equilibrium):
@@ -45,9 +43,9 @@ def standings(entry, line, record):
     elif entry == "ticket":
         yield ALONE, standing(int(words[5]), int(words[7]))
     elif words[-1] != b"-":
-        lent = bytes.fromhex(words[-1].decode("ascii"))
-        whole = [lent[at : at + LENGTH] for at in range(0, len(lent) - LENGTH + 1, LENGTH)]
-        for run in whole[record - 1 : record] if record else whole:
-            prover, meter, prover_equilibrium, meter_equilibrium = RUN.unpack(run)
+        lent, run = bytes.fromhex(words[-1].decode("ascii")), RECORDS[entry]
+        whole = [*run.iter_unpack(lent[: len(lent) // run.size * run.size])]
+        for pressures in whole[record - 1 : record] if record else whole:
+            prover, meter, prover_equilibrium, meter_equilibrium = pressures
             yield PROVER, standing(prover, prover_equilibrium)
             yield METER, standing(meter, meter_equilibrium)

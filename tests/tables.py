@@ -9,13 +9,16 @@ one fail. With --program the program under test must give the reference's answer
 
 import argparse
 import sys
+from dataclasses import replace
 from decimal import ROUND_HALF_UP, Decimal
+from fractions import Fraction
 from itertools import cycle, islice, product
 
 from cases.arithmetic import half_up
 from cases.channel_shapes import CELSIUS, Channel, Channels, psi
 from cases.lookup_shapes import GRAVITIES, TEMPERATURES, LookUp, Row, beside
-from cases.shapes import Draw, Fill, Job, Prover, Run, Ticket, line
+from cases.plain import fitted_job
+from cases.shapes import Draw, Fill, Job, LongRun, Prover, Run, Ticket, line
 from cases.singles import bits
 from programs import REFERENCE, Stopped, answers_of, command
 from worked import WorkedDraws, fill_of, nearest_units, plain_fill, rows, units
@@ -23,7 +26,7 @@ from worked import WorkedDraws, fill_of, nearest_units, plain_fill, rows, units
 FILES = (
     "cts_tables cts_points cps_table cps_points cpl_points ccts_points ctdw_points"
     " fills passes trips draws barrels provings proving_runs tickets repeatability"
-    " half_degrees compressibilities celsius"
+    " half_degrees compressibilities celsius interpolations"
 ).split()
 
 # By a prover's type the entry that answers its base volume, and the one that answers what that is
@@ -227,9 +230,11 @@ def prover_of(row):
 
 
 def run_of(row, of):
-    """A run with the figure's CTL, F and Pe; `of` gives its pulses, temperatures and pressures."""
-    return Run(
-        int(of["pulses"]),
+    """A run with the figure's CTL, F and Pe; `of` gives its pulses, temperatures and pressures. One
+    with a part of a pulse has the longer form."""
+    is_whole = "." not in of["pulses"]
+    return (Run if is_whole else LongRun)(
+        units(of["pulses"], 0 if is_whole else 3),
         units(of["prover_temperature"], 1),
         units(of["meter_temperature"], 1),
         int(of["prover_pressure"]),
@@ -250,7 +255,7 @@ def provings(tables):
 
 def run_values(tables, place, row, run):
     """A run's figures beside those that the source prints for the averages of its runs."""
-    job = Job((run,), prover_of(row), units(row["k"], 3))
+    job = Job((run,), prover_of(row), units(row["k"], 3), form=type(run))
     for at, name in enumerate(RUN_VALUES):
         tables.answered(place, name.replace("_", " "), row[f"printed_{name}"], job.run(), at, 4)
 
@@ -338,6 +343,34 @@ def celsius(tables):
         channel = Channel(CELSIUS, bits(float(row["celsius"])))
         text = Channels(channel, psi(0.0)).line
         tables.answered(row["place"], "temperature", row["printed_fahrenheit"], text, 0, 1)
+
+
+def interpolated(row):
+    """The count in thousandths, with the corrections where they go into it."""
+    count = Fraction(1000 * int(row["pulses"]))
+    if row["t1"]:
+        count *= Fraction(int(row["t2"]), int(row["t1"]))
+    if row["corrects"] == "count":
+        count *= Fraction(row["meter_correction"]) / Fraction(row["prover_correction"])
+    return half_up(count.numerator, count.denominator)
+
+
+def interpolations(tables):
+    for row in rows("interpolations"):
+        run = LongRun(interpolated(row))
+        if row["corrects"] == "CTL":
+            run = replace(
+                run,
+                prover_ctl=nearest_units(row["prover_correction"], 4),
+                meter_ctl=nearest_units(row["meter_correction"], 4),
+            )
+        job = fitted_job(run, Prover(), units(row["divisor"], 3))
+        if row["base"]:
+            job = replace(job, prover=Prover(base=units(row["base"], 4)))
+        place = row["place"]
+        tables.answered(place, "quotient", row["printed_quotient"], job.run(), 0, 4)
+        tables.answered(place, "factor", row["printed_factor"], job.run(), 9, 4)
+        tables.answered(place, "job factor", row["printed_factor"], job.prove, 0, 4)
 
 
 def main():

@@ -4,6 +4,7 @@
 #include "draw.h"
 #include "live.h"
 #include "lookup.h"
+#include "moving.h"
 #include "panel.h"
 #include "proving.h"
 #include "quotient.h"

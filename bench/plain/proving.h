@@ -1,36 +1,9 @@
-// The job of a pipe prover (01, 'Proving, by pipe prover').
+// The job of a pipe prover (01, 'Proving, by pipe prover'), with runs in either form (02, 'Longer run records, and the
+// way back').
 #include "factors.h"
 #include "group.h"
-#include "records.h"
+#include "run.h"
 #include <string.h>
-
-typedef struct {
-    uint32_t pulses;
-    int16_t prover_t, meter_t;
-    uint16_t prover_p, meter_p, prover_ctl, meter_ctl, prover_f, meter_f, prover_pe, meter_pe;
-} Run;
-
-static Run run_from(const uint8_t *s) {
-    return (Run){long_word(s),
-                 (int16_t)word(s + 4),
-                 (int16_t)word(s + 6),
-                 word(s + 8),
-                 word(s + 10),
-                 word(s + 12),
-                 word(s + 14),
-                 word(s + 16),
-                 word(s + 18),
-                 word(s + 20),
-                 word(s + 22)};
-}
-
-static bool is_run(const Run *run) {
-    return within(run->pulses, 1, 100000000) && within(run->prover_t, -200, 2000) &&
-           within(run->meter_t, -200, 2000) && within(run->prover_p, run->prover_pe, 1500) &&
-           within(run->meter_p, run->meter_pe, 1500) && within(run->prover_ctl, 5000, 15000) &&
-           within(run->meter_ctl, 5000, 15000) && within(run->prover_f, 0, 10000) &&
-           within(run->meter_f, 0, 10000);
-}
 
 static uint64_t run_factor(const EndakuroProver *prover, uint16_t gc, const Run *run, uint64_t indicated) {
     uint64_t cts = cts_of(run->prover_t, gc, FOUR_PLACES);
@@ -59,8 +32,7 @@ static EndakuroReport report_of(uint32_t request, int runs, int first, const uin
                              .f4 = (uint16_t)five[3],
                              .f5 = (uint16_t)five[4]};
     memset(buffer, 0, RECORD);
-    put_word(buffer, (uint16_t)request);
-    put_word(buffer + 2, (uint16_t)(request >> 16));
+    put_long_word(buffer, request);
     put_word(buffer + 4, report.factor);
     buffer[6] = report.first;
     buffer[7] = report.runs;
@@ -68,31 +40,48 @@ static EndakuroReport report_of(uint32_t request, int runs, int first, const uin
     return report;
 }
 
-EndakuroReport NAMED(prove)(uint32_t request, EndakuroProver prover, uint32_t k, uint16_t limit, const uint8_t *records,
-                            size_t size, uint8_t *buffer, size_t room) {
-    uint16_t gc = coefficient_of(prover.metal, prover.coefficient);
-    if (JUDGING) {
-        if (room != RECORD) return no_report(14, 0);
-        if (request == 0) return no_report(22, 0);
-        if (size % RECORD != 0 || !within((int64_t)(size / RECORD), 5, 20)) return no_report(1, 0);
-        if (!is_metal(gc) || !is_pipe(&prover) || !within(prover.base, 1, 100000000)) return no_report(3, 0);
-        if (!within(k, 1, 1000000000) || !within(limit, 1, 100)) return no_report(4, 0);
-    }
-    int count = (int)(size / RECORD);
-    Run runs[20];
-    for (int i = 0; i < count; i++) {
-        const uint8_t *record = records + RECORD * i;
-        runs[i] = run_from(record);
-        if (JUDGING && !is_run(&runs[i])) return no_report(5, (uint16_t)(i + 1));
-        if (JUDGING && !all_zero(record, 24, RECORD)) return no_report(2, (uint16_t)(i + 1));
-    }
+static EndakuroReport work_out(uint32_t request, const EndakuroProver *prover, uint16_t gc, uint32_t k, uint16_t limit,
+                               const Run *runs, int count, uint8_t *buffer) {
     uint64_t factors[20];
     for (int i = 0; i < count; i++) {
-        uint64_t indicated = rounded((wide)runs[i].pulses * 10000000, k);
+        uint64_t indicated = rounded((wide)runs[i].thousandths * 10000, k);
         if (JUDGING && (indicated < 1 || indicated > 100000000)) return no_report(7, (uint16_t)(i + 1));
-        factors[i] = run_factor(&prover, gc, &runs[i], indicated);
+        factors[i] = run_factor(prover, gc, &runs[i], indicated);
         if (JUDGING && (factors[i] < 8000 || factors[i] > 12000)) return no_report(8, (uint16_t)(i + 1));
     }
     int at = first_group(factors, count, 5, limit);
     return at < 0 ? no_report(9, 0) : report_of(request, count, at + 1, factors + at, buffer);
+}
+
+BY_FORM EndakuroReport prove_job(uint32_t request, EndakuroProver prover, uint32_t k, uint16_t limit,
+                                 const uint8_t *records, size_t size, uint8_t *buffer, size_t room, bool in_long_form) {
+    uint16_t gc = coefficient_of(prover.metal, prover.coefficient);
+    size_t each = record_size(in_long_form);
+    if (JUDGING) {
+        if (room != RECORD) return no_report(14, 0);
+        if (request == 0) return no_report(22, 0);
+        if (size % each != 0 || !within((int64_t)(size / each), 5, 20)) return no_report(1, 0);
+        if (!is_metal(gc) || !is_pipe(&prover) || !within(prover.base, 1, 100000000)) return no_report(3, 0);
+        if (!within(k, 1, 1000000000) || !within(limit, 1, 100)) return no_report(4, 0);
+    }
+    int count = (int)(size / each);
+    Run runs[20];
+    for (int i = 0; i < count; i++) {
+        const uint8_t *record = records + each * (size_t)i;
+        runs[i] = run_from(record, in_long_form);
+        if (!JUDGING) continue;
+        uint16_t fault = fault_in(record, &runs[i], in_long_form);
+        if (fault) return no_report(fault, (uint16_t)(i + 1));
+    }
+    return work_out(request, &prover, gc, k, limit, runs, count, buffer);
+}
+
+EndakuroReport NAMED(prove)(uint32_t request, EndakuroProver prover, uint32_t k, uint16_t limit, const uint8_t *records,
+                            size_t size, uint8_t *buffer, size_t room) {
+    return prove_job(request, prover, k, limit, records, size, buffer, room, false);
+}
+
+EndakuroReport NAMED(prove_long)(uint32_t request, EndakuroProver prover, uint32_t k, uint16_t limit,
+                                 const uint8_t *records, size_t size, uint8_t *buffer, size_t room) {
+    return prove_job(request, prover, k, limit, records, size, buffer, room, true);
 }

@@ -1,143 +1,13 @@
 // The line program's entries through the C header: reads its lines and answers in its words, so that both can
 // be given the same lines. Only lines that are well formed come here; the grammar is the line program's own.
+#include "answers.h"
+#include "jobs.h"
 #include <endakuro.h>
 #include <stdio.h>
-#include <stdlib.h>
 #include <string.h>
 
-enum { LONGEST = 524288, GUARD = 64, GUARDED = 0x5a };
-
-static char line[LONGEST + 2];
-static char *rest;
-
-// Lent bytes between guards, so that a byte written beside them is seen.
-typedef struct {
-    uint8_t room[GUARD + LONGEST / 2 + GUARD];
-    size_t length;
-} Lent;
-
-static Lent records, buffer;
 // The book, and as it was before the line that is answered.
 static EndakuroBook kept, before;
-
-// ---- operands
-
-static char *next_word(void) {
-    char *word = rest;
-    char *space = strchr(word, ' ');
-    if (space) *space = 0;
-    rest = space ? space + 1 : word + strlen(word);
-    return word;
-}
-
-static uint32_t number(void) {
-    return (uint32_t)strtoul(next_word(), NULL, 10);
-}
-
-static int16_t signed_number(void) {
-    return (int16_t)strtol(next_word(), NULL, 10);
-}
-
-static uint32_t bits_of_single(void) {
-    return (uint32_t)strtoul(next_word(), NULL, 16);
-}
-
-static float single_of(uint32_t bits) {
-    float value;
-    memcpy(&value, &bits, sizeof value);
-    return value;
-}
-
-static EndakuroChannel channel(void) {
-    static const char *const kinds[] = {[ENDAKURO_FAHRENHEIT] = "fahrenheit",
-                                        [ENDAKURO_CELSIUS] = "celsius",
-                                        [ENDAKURO_PRESSURE] = "pressure",
-                                        [ENDAKURO_FAULT] = "fault"};
-    EndakuroChannel read = {.kind = ENDAKURO_FAHRENHEIT};
-    const char *name = next_word();
-    while (read.kind < ENDAKURO_FAULT && strcmp(kinds[read.kind], name) != 0) read.kind++;
-    read.bits = read.kind == ENDAKURO_FAULT ? number() : bits_of_single();
-    return read;
-}
-
-static int digit(char c) {
-    return c <= '9' ? c - '0' : c - 'a' + 10;
-}
-
-static uint8_t *lent_bytes(Lent *lent) {
-    return lent->room + GUARD;
-}
-
-static void lend(Lent *lent) {
-    const char *word = next_word();
-    lent->length = word[0] == '-' ? 0 : strlen(word) / 2;
-    memset(lent->room, GUARDED, GUARD);
-    for (size_t i = 0; i < lent->length; i++)
-        lent_bytes(lent)[i] = (uint8_t)(16 * digit(word[2 * i]) + digit(word[2 * i + 1]));
-    memset(lent_bytes(lent) + lent->length, GUARDED, GUARD);
-}
-
-static uint8_t metal;
-static uint16_t coefficient;
-
-static void read_metal(void) {
-    metal = (uint8_t)number();
-    coefficient = (uint16_t)number();
-}
-
-static EndakuroProver settings(void) {
-    EndakuroProver prover;
-    read_metal();
-    prover.metal = metal;
-    prover.coefficient = coefficient;
-    prover.diameter = number();
-    prover.wall = number();
-    prover.modulus = number();
-    prover.base = number();
-    return prover;
-}
-
-static EndakuroFigures agreement(void) {
-    EndakuroFigures agreed;
-    for (int s = 0; s < 4; s++) agreed.reserves[s] = (uint8_t)number();
-    for (int s = 0; s < 4; s++) agreed.ceilings[s] = (uint8_t)number();
-    return agreed;
-}
-
-// ---- answers
-
-// What the header rules out is printed, so that no such answer is the line program's.
-static void require(int holds, const char *otherwise) {
-    if (!holds) printf("(%s) ", otherwise);
-}
-
-#define VALUES(...) (const int64_t[]){__VA_ARGS__}, (int)(sizeof((int64_t[]){__VA_ARGS__}) / sizeof(int64_t))
-
-// Done with its values, or refused, and then with none.
-static void tell(uint16_t refusal, uint16_t record, const int64_t *values, int count) {
-    if (refusal == 0) {
-        require(record == 0, "done, with a record");
-        printf("ok");
-        for (int i = 0; i < count; i++) printf(" %lld", (long long)values[i]);
-        return;
-    }
-    for (int i = 0; i < count; i++) require(values[i] == 0, "refused, with a value");
-    printf("refused %u %u", refusal, record);
-}
-
-static void tell_bytes(const uint8_t *bytes, size_t length) {
-    printf(length ? " " : " -");
-    for (size_t i = 0; i < length; i++) printf("%02x", bytes[i]);
-}
-
-static void tell_lent(Lent *lent) {
-    const uint8_t *after = lent_bytes(lent) + lent->length;
-    for (int i = 0; i < GUARD; i++)
-        require(lent->room[i] == GUARDED && after[i] == GUARDED, "written beside the buffer");
-    tell_bytes(lent_bytes(lent), lent->length);
-}
-
-// ---- entries
 
 static void tell_factor(EndakuroFactor r) {
     tell(r.number, r.record, VALUES(r.value));
@@ -166,47 +36,11 @@ static void cpl(void) {
     tell_factor(six_places() ? endakuro_cpl_six(p, f, pe) : endakuro_cpl_four(p, f, pe));
 }
 
-static void prove(void) {
-    uint32_t request = number();
-    EndakuroProver prover = settings();
-    uint32_t k = number();
-    uint16_t limit = (uint16_t)number();
-    lend(&buffer);
-    lend(&records);
-    EndakuroReport r = endakuro_prove(request, prover, k, limit, lent_bytes(&records), records.length,
-                                      lent_bytes(&buffer), buffer.length);
-    require(r.request == (r.number ? 0 : request), "another request number");
-    tell(r.number, r.record, VALUES(r.factor, r.first, r.runs, r.f1, r.f2, r.f3, r.f4, r.f5));
-    tell_lent(&buffer);
-}
-
-static void runs(void) {
-    EndakuroProver prover = settings();
-    uint32_t k = number();
-    uint16_t limit = (uint16_t)number();
-    lend(&records);
-    EndakuroPart r = endakuro_accept(prover, k, limit, lent_bytes(&records), records.length);
-    require(r.length || r.start == 0, "no part, with a start");
-    printf("ok");
-    tell_bytes(lent_bytes(&records) + r.start, r.length);
-}
-
-static void run(void) {
-    EndakuroProver prover = settings();
-    uint32_t k = number();
-    lend(&records);
-    EndakuroRun r = endakuro_run(prover, k, lent_bytes(&records), records.length);
-    tell(r.number, r.record,
-         VALUES((int64_t)r.indicated, (int64_t)r.cts, (int64_t)r.cps, (int64_t)r.prover_cpl, (int64_t)r.prover_factor,
-                (int64_t)r.meter_cpl, (int64_t)r.meter_product, (int64_t)r.prover_volume, (int64_t)r.meter_volume,
-                (int64_t)r.factor));
-}
-
 typedef EndakuroDraw (*DrawWater)(EndakuroProver, const uint8_t *, size_t);
 
 static void draw_by(DrawWater by) {
     EndakuroProver prover = settings();
-    lend(&records);
+    lend_records();
     EndakuroDraw r = by(prover, lent_bytes(&records), records.length);
     tell(r.number, r.record, VALUES((int64_t)r.base, (int64_t)r.barrels, r.first));
 }
@@ -217,7 +51,7 @@ static void bidirectional(void) { draw_by(endakuro_bidirectional); }
 
 static void fill(void) {
     read_metal();
-    lend(&records);
+    lend_records();
     EndakuroFill r = endakuro_fill(metal, coefficient, lent_bytes(&records), records.length);
     tell(r.number, r.record,
          VALUES((int64_t)r.adjusted, (int64_t)r.measure, (int64_t)r.prover, (int64_t)r.ccts, (int64_t)r.drawn));
@@ -227,7 +61,7 @@ typedef EndakuroPasses (*ListVolumes)(EndakuroProver, const uint8_t *, size_t);
 
 static void list(ListVolumes of) {
     EndakuroProver prover = settings();
-    lend(&records);
+    lend_records();
     EndakuroPasses r = of(prover, lent_bytes(&records), records.length);
     int64_t values[21] = {r.count};
     for (int i = 0; i < 20; i++) {
@@ -286,7 +120,7 @@ static void tell_panel(EndakuroPanel r) {
 static void look_up(void) {
     int16_t temperature = signed_number();
     uint16_t gravity = (uint16_t)number();
-    lend(&records);
+    lend_records();
     EndakuroEntry r = endakuro_look_up(temperature, gravity, lent_bytes(&records), records.length);
     tell(r.number, r.record, VALUES(r.temperature, r.gravity, r.compressibility));
 }
@@ -312,7 +146,7 @@ static void write(void) {
     f.f3 = (uint16_t)number();
     f.f4 = (uint16_t)number();
     f.f5 = (uint16_t)number();
-    lend(&buffer);
+    lend_buffer();
     EndakuroReport r = endakuro_write(request, count, first, f, lent_bytes(&buffer), buffer.length);
     int told = r.request == request && r.runs == count && r.first == first && r.f1 == f.f1 && r.f2 == f.f2 &&
                r.f3 == f.f3 && r.f4 == f.f4 && r.f5 == f.f5;
@@ -320,12 +154,12 @@ static void write(void) {
     require(r.number == 0 || (r.request | r.factor | r.first | r.runs | r.f1 | r.f2 | r.f3 | r.f4 | r.f5) == 0,
             "refused, with a value");
     tell(r.number, r.record, NULL, 0);
-    tell_lent(&buffer);
+    tell_buffer();
 }
 
 static void read(void) {
-    lend(&buffer);
-    tell_report(endakuro_read(lent_bytes(&buffer), buffer.length));
+    lend_records();
+    tell_report(endakuro_read(lent_bytes(&records), records.length));
 }
 
 // No line shows a book that is not sound, so that what a refusal leaves is seen here.
@@ -405,6 +239,11 @@ static const struct {
     {"prove", prove},
     {"runs", runs},
     {"run", run},
+    {"prove_long", prove_long},
+    {"runs_long", runs_long},
+    {"run_long", run_long},
+    {"forward", forward},
+    {"back", back},
     {"draw", draw},
     {"bidirectional", bidirectional},
     {"fill", fill},
@@ -435,6 +274,7 @@ int main(void) {
         if (end) *end = 0;
         rest = line;
         before = kept;
+        set_length(&records, 0);
         const char *name = next_word();
         size_t i = 0;
         while (i < sizeof entries / sizeof *entries && strcmp(entries[i].name, name) != 0) i++;
@@ -442,6 +282,7 @@ int main(void) {
             printf("no such entry");
         } else {
             entries[i].answer();
+            require_records_left();
         }
         putchar('\n');
     }

@@ -11,7 +11,9 @@ from . import (
     draws,
     factors,
     grammar,
+    long_runs,
     lookups,
+    moves,
     panels,
     provings,
     reports,
@@ -37,6 +39,8 @@ AIMED = (
     agreements,
     lookups,
     channels,
+    long_runs,
+    moves,
 )
 
 
@@ -58,6 +62,8 @@ def by_chance(rng):
         (6, spreads),
         (6, lookups),
         (8, channels),
+        (9, long_runs),
+        (4, moves),
         (12, grammar),
     )
     weights = [weight for weight, _ in parts]

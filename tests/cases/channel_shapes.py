@@ -3,6 +3,7 @@ singles mean a whole number."""
 
 import struct
 from fractions import Fraction
+from functools import lru_cache
 from typing import NamedTuple
 
 from . import ends
@@ -88,6 +89,7 @@ def whole(value):
     return size if value >= 0 else -size
 
 
+@lru_cache(maxsize=2**16)
 def meaning(kind, single):
     """The tenths of °F or the psi that a finite single means."""
     times, offset = SCALES[kind]
@@ -109,6 +111,7 @@ def stepped(single, by):
     return single_at(place(single) + by)
 
 
+@lru_cache(maxsize=2**13)
 def lowest(kind, number):
     """The lowest single that means a whole number."""
     times, offset = SCALES[kind]

@@ -11,12 +11,14 @@ CTL = (5000, 15000)
 RUN_FACTOR = (8000, 12000)
 VOLUME = (1, 100_000_000)
 PULSES = (1, 100_000_000)
+PULSE_THOUSANDTHS = (1000, 100_000_000_000)
 K_FACTOR = (1, 1_000_000_000)
 LIMIT = (1, 100)
 GRAVITY = (0, 900)
 
 U16 = (0, 2**16 - 1)
 U32 = (0, 2**32 - 1)
+U64 = (0, 2**64 - 1)
 I16 = (-(2**15), 2**15 - 1)
 
 PROVER = {
@@ -40,6 +42,8 @@ RUN = {
     "prover_equilibrium_pressure": (PRESSURE, U16),
     "meter_equilibrium_pressure": (PRESSURE, U16),
 }
+
+LONG_RUN = {**RUN, "pulses": (PULSE_THOUSANDTHS, U64)}
 
 FILL = {
     "certified": ((20_000, 100_000_000), U32),

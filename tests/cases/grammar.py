@@ -5,7 +5,9 @@ from . import (
     channels,
     draws,
     factors,
+    long_runs,
     lookups,
+    moves,
     panels,
     provings,
     reports,
@@ -17,13 +19,15 @@ from . import (
 from .book_shapes import NEW, load
 from .channel_shapes import Channels, celsius, fahrenheit, fault, psi
 from .lookup_shapes import ROW, LookUp, Row
+from .move_shapes import FORWARD, Move
 from .plain import plain_trips
-from .shapes import Draw, Fill, Job, Prover, Report, Run, Ticket, line
+from .shapes import Draw, Fill, Job, Prover, Report, Run, Ticket, hexed, line
 
-LONGEST = 524_288
+LONGEST = 1_048_576
 
 NAMES = (
-    "cts cps cpl prove runs run draw fill passes bidirectional trips ticket live"
+    "cts cps cpl prove runs run prove_long runs_long run_long forward back"
+    " draw fill passes bidirectional trips ticket live"
     " channels panel_temperature panel_pressure look_up spread write read"
     " request withdraw take book set figures load empty"
 ).split()
@@ -36,6 +40,8 @@ def examples():
     out_and_back = plain_trips([(1_155_000, 1_158_000)] * 3)
     table = (Row(-5, 195, 431), Row(995, 200, 447), Row(1000, 200, 448))
     report = Report()
+    runs = (Run(200_000), Run(199_999))
+    moved = b"".join(run.long.packed for run in runs)
     return [
         line("cts", 700, 4, 250, 4),
         line("cts", -5, 0, 0, 6),
@@ -44,6 +50,11 @@ def examples():
         job.prove,
         job.accepted,
         job.run(),
+        job.long.prove,
+        job.long.accepted,
+        job.long.run(),
+        Move(FORWARD, runs, bytes(len(moved))).line,
+        line("back", "5a" * 64, hexed(moved)),
         draw.draw,
         draw.fill(),
         draw.passes,
@@ -199,6 +210,7 @@ def names():
     yield from (b"panel 733", b"panel_ 733", b"panel temperature 733", b"panel-temperature 733")
     yield from (b"panel_temperature_733", b"panel_temperature panel_temperature 733")
     yield from (b"channel celsius 0 fault 0", b"channels_celsius 41b40000 pressure 42200000")
+    yield from (b"prove long", b"prove-long", b"long_prove", b"run_ long", b"_long", b"moved - -")
     yield from (b"look up 0 0 -", b"look_ up 0 0 -", b"look-up 0 0 -", b"lookup 0 0 -")
     yield from (b"help", b"quit", b"ok", b"bad line", b"refused 1 0", b"-", b"0", b"\xff", b"?")
 
@@ -223,13 +235,18 @@ def long_lines(rng):
     prover = line(*Prover().words)
     job = b" 10000000 5 "
     run = Run().packed.hex().encode()
-    yield filled(b"runs " + prover + job, run, LONGEST)
-    yield filled(b"prove 7 " + prover + job + b"00" * 32 + b" ", run, LONGEST)
+    yield filled(b"runs " + prover + job, run, LONGEST // 2)
+    yield filled(b"prove 7 " + prover + job + b"00" * 32 + b" ", run, LONGEST // 2)
     yield b"prove 7 " + prover + job + b"5a" * 200_000 + b" -"
     for name in (b"passes ", b"bidirectional "):
-        yield filled(name + prover + b" ", Fill().packed.hex().encode(), LONGEST)
-    yield filled(b"look_up 1000 200 ", ROW.pack(*Row(1000, 200)).hex().encode(), LONGEST)
+        yield filled(name + prover + b" ", Fill().packed.hex().encode(), LONGEST // 2)
+    yield filled(b"look_up 1000 200 ", ROW.pack(*Row(1000, 200)).hex().encode(), LONGEST // 2)
     yield b"write 7 6 2 8000 8000 8000 8000 8000 " + rng.randbytes(250_000).hex().encode()
+    yield filled(b"runs_long " + prover + job, Run().long.packed.hex().encode(), LONGEST)
+    # in proportion, though not whole, and to the byte as long as a line can be; then by a CR longer
+    at_the_end = b"back " + b"5a" * 209_714 + b" " + b"00" * 314_571
+    yield at_the_end
+    yield at_the_end + b"\r"
 
 
 def filled(head, unit, length):
@@ -253,6 +270,8 @@ def good_line(rng):
             spreads.by_chance,
             lookups.by_chance,
             channels.by_chance,
+            long_runs.by_chance,
+            moves.by_chance,
             lambda of: of.choice(examples()),
         )
     )(rng)
@@ -281,7 +300,7 @@ def damaged(rng):
 
 def marred_record(rng):
     """A good line of records with one hex digit changed, so that the grammar still stands."""
-    parts = (provings, draws, trips, reports, lookups)
+    parts = (provings, draws, trips, reports, lookups, long_runs, moves)
     octets = bytearray(rng.choice(parts).by_chance(rng))
     start = octets.rindex(b" ") + 1
     octets[rng.randrange(start, len(octets))] = rng.choice(b"0123456789abcdef")

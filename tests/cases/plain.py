@@ -20,10 +20,10 @@ def plain_job(factors, **others):
 
 def fitted_job(run, prover, k_factor, count=5):
     """The run, repeated, with the base volume that makes its factor nearest to 1."""
-    indicated = half_up(run.pulses * 10**7, k_factor)
+    indicated = run.indicated(k_factor)
     base = half_up(indicated * run.meter_product, run.prover_factor(prover))
     prover = replace(prover, base=min(max(base, 1), 100_000_000))
-    return Job((run,) * count, prover, k_factor)
+    return Job((run,) * count, prover, k_factor, form=type(run))
 
 
 def plain_draw(volumes, fills_each=1, **others):

@@ -3,7 +3,7 @@
 from dataclasses import replace
 
 from . import ends, equilibria
-from .shapes import Job, Prover, Run
+from .shapes import Job, LongRun, Prover, Run
 
 
 def valid_prover(rng):
@@ -103,10 +103,21 @@ def wanted_factors(limit, count, rng):
 def valid_job(rng):
     prover = valid_prover(rng)
     k = rng.choice((10_000_000, 100_000_000, 1_000_000_000, rng.randint(5_000_000, 1_000_000_000)))
+    return job_of_a_day(prover, k, rng)
+
+
+def interpolated_job(rng):
+    """In the longer form, of so few pulses that a part of one counts: 1 to 1,000 a barrel."""
+    return job_of_a_day(valid_prover(rng), int(10 ** rng.uniform(3, 6)), rng, LongRun)
+
+
+def job_of_a_day(prover, k, rng, form=Run):
     limit = rng.choice((5, 5, 5, rng.randint(1, 100)))
     count = rng.choice((5, 5, 5, 6, 6, 7, 8, rng.randint(5, 20)))
     run = valid_run(rng)
     factors = wanted_factors(limit, count, rng)
+    if form is LongRun:
+        run = run.long
     runs = tuple(beside(run, rng).with_factor(factor, prover, k) for factor in factors)
     return Job(
         runs,
@@ -115,4 +126,5 @@ def valid_job(rng):
         limit,
         rng.choice((rng.randint(1, 20), rng.randint(1, 2**32 - 1))),
         rng.randbytes(32),
+        form=form,
     )

@@ -58,23 +58,24 @@ class Run:
     meter_equilibrium_pressure: int = 0
     unnamed: bytes = bytes(8)
 
+    # What its form has: the end of an entry's name, how many thousandths one of its pulses is, and
+    # a record of the fields above.
+    SUFFIX = ""
+    THOUSANDTHS = 1000
+    LAYOUT = struct.Struct("<IhhHHHHHHHH8s")
+
     @property
     def packed(self):
-        return struct.pack(
-            "<IhhHHHHHHHH8s",
-            self.pulses,
-            self.prover_temperature,
-            self.meter_temperature,
-            self.prover_pressure,
-            self.meter_pressure,
-            self.prover_ctl,
-            self.meter_ctl,
-            self.prover_compressibility,
-            self.meter_compressibility,
-            self.prover_equilibrium_pressure,
-            self.meter_equilibrium_pressure,
-            self.unnamed,
-        )
+        return self.LAYOUT.pack(*vars(self).values())
+
+    @property
+    def long(self):
+        """The same run in the longer form."""
+        pulses, *conditions, unnamed = vars(self).values()
+        return LongRun(pulses * self.THOUSANDTHS, *conditions, unnamed + bytes(12))
+
+    def indicated(self, k_factor):
+        return half_up(self.pulses * self.THOUSANDTHS * 10**4, k_factor)
 
     @property
     def prover_cpl(self):
@@ -105,9 +106,28 @@ class Run:
     def with_factor(self, factor, prover, k_factor):
         """The same run with the pulses that bring its factor nearest to `factor`."""
         prover_volume = half_up(prover.base * self.prover_factor(prover), 10**4)
-        divisor = factor * self.meter_product * 10**7
+        divisor = factor * self.meter_product * 10**4 * self.THOUSANDTHS
         pulses = half_up(prover_volume * 10**8 * k_factor, divisor)
-        return replace(self, pulses=min(max(pulses, 1), 100_000_000))
+        least, most = 1000 // self.THOUSANDTHS, 10**11 // self.THOUSANDTHS
+        return replace(self, pulses=min(max(pulses, least), most))
+
+
+@dataclass(frozen=True)
+class LongRun(Run):
+    """A run in the longer form: its pulses are thousandths of a pulse."""
+
+    pulses: int = 200_000_000
+    unnamed: bytes = bytes(20)
+
+    SUFFIX = "_long"
+    THOUSANDTHS = 1
+    LAYOUT = struct.Struct("<QhhHHHHHHHH20s")
+
+    @property
+    def short(self):
+        """The same run in the form of before, where its count is whole and its last bytes are 0."""
+        pulses, *conditions, unnamed = vars(self).values()
+        return Run(pulses // Run.THOUSANDTHS, *conditions, unnamed[:8])
 
 
 @dataclass(frozen=True)
@@ -119,6 +139,12 @@ class Job:
     request: int = 7
     buffer: bytes = NO_BUFFER_YET
     tail: bytes = b""
+    form: type = Run  # of all runs
+
+    @property
+    def long(self):
+        """The same job with its runs in the longer form."""
+        return replace(self, runs=tuple(run.long for run in self.runs), form=LongRun)
 
     @property
     def records(self):
@@ -127,7 +153,7 @@ class Job:
     @property
     def prove(self):
         return line(
-            "prove",
+            "prove" + self.form.SUFFIX,
             self.request,
             *self.prover.words,
             self.k_factor,
@@ -138,16 +164,45 @@ class Job:
 
     @property
     def accepted(self):
-        return line("runs", *self.prover.words, self.k_factor, self.limit, hexed(self.records))
+        name = "runs" + self.form.SUFFIX
+        return line(name, *self.prover.words, self.k_factor, self.limit, hexed(self.records))
 
     def run(self, at=0):
-        record = self.runs[at].packed + self.tail
-        return line("run", *self.prover.words, self.k_factor, hexed(record))
+        name, record = "run" + self.form.SUFFIX, self.runs[at].packed + self.tail
+        return line(name, *self.prover.words, self.k_factor, hexed(record))
+
+    @classmethod
+    def read(cls, text):
+        """The job that a line asks for; what its entry has not is in order."""
+        name, *words, records = text.decode("ascii").split(" ")
+        form = LongRun if name.endswith(LongRun.SUFFIX) else Run
+        given = {}
+        if name.startswith("prove"):
+            request, *words, buffer = words
+            given = {"request": int(request), "buffer": bytes.fromhex(buffer.removeprefix("-"))}
+        *settings, k_factor = map(int, words[:7])
+        if words[7:]:
+            given["limit"] = int(words[7])
+        lent = bytes.fromhex(records.removeprefix("-"))
+        whole = len(lent) // form.LAYOUT.size * form.LAYOUT.size
+        runs = tuple(form(*fields) for fields in form.LAYOUT.iter_unpack(lent[:whole]))
+        return cls(runs, Prover(*settings), k_factor, tail=lent[whole:], form=form, **given)
 
     def with_run(self, at, **fields):
         runs = list(self.runs)
         runs[at] = replace(runs[at], **fields)
         return replace(self, runs=tuple(runs))
+
+
+def both_forms(job, *entries, at=0):
+    """A job with short records and then the same in the longer form, each on a line."""
+    asks = {
+        "prove": lambda of: of.prove,
+        "runs": lambda of: of.accepted,
+        "run": lambda of: of.run(at),
+    }
+    for entry in entries:
+        yield from (asks[entry](job), asks[entry](job.long))
 
 
 @dataclass(frozen=True)

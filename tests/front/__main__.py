@@ -1,7 +1,9 @@
 """The tests of the front end, a line each. Run: python3 tests/front [NAME .. | PART/PARTS]"""
 
 import importlib
+import os
 import sys
+import tempfile
 import time
 import traceback
 from pathlib import Path
@@ -13,6 +15,7 @@ NAMES = (
     "spreads", "readback", "outputs", "losses", "worksheets", "workbooks", "halves", "plots", "prints", "machines",
     "verifying", "pagefolders", "reworks", "obstacles", "sessions", "keeping", "newfiles", "building", "helping",
     "readme", "sums", "panels", "channels", "channelfaults", "trips", "agreements", "lookups", "lookupjobs",
+    "moving", "interpolated",
 )  # fmt: skip
 
 
@@ -24,11 +27,23 @@ def chosen(words):
     return words or NAMES
 
 
+def compiled_once(folder):
+    """Has the commands that are started read what Python made of their text, also where it is told to keep nothing."""
+    os.environ.pop("PYTHONDONTWRITEBYTECODE", None)
+    os.environ["PYTHONPYCACHEPREFIX"] = folder
+
+
 def main():
     # Before any test: what it tells of its progress is no part of a command's output.
     importlib.import_module("front.build").ensure()
+    with tempfile.TemporaryDirectory() as folder:
+        compiled_once(folder)
+        return tested(chosen(sys.argv[1:]))
+
+
+def tested(names):
     failed = 0
-    for name in chosen(sys.argv[1:]):
+    for name in names:
         began = time.monotonic()
         try:
             tally = importlib.import_module(name).test()

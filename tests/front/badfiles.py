@@ -71,8 +71,8 @@ CASES = (
      "run 1, meter_temprature: unknown key: did you mean meter_temperature?"),
     ("too many digits", "prove", changed("= 63.5", "= 63.55"),
      "run 3, prover_temperature: 63.55 has more digits than the unit, 0.1 °F: expected at most 1 decimal, in °F"),
-    ("parts of a pulse", "prove", changed("17743", "17743.5"),
-     "run 1, pulses: 17743.5 has more digits than the unit, 1 pulse: expected a whole number, in pulses"),
+    ("a ten-thousandth of a pulse", "prove", changed("17743", "17743.5001"),
+     "run 1, pulses: 17743.5001 has more digits than the unit, 0.001 pulse: expected at most 3 decimals, in pulses"),
     ("too many by exponent", "prove", changed("8.23e-6", "8.235e-6"),
      "[every_run], prover_compressibility: 8.235e-6 has more digits than the unit, 0.00000001 per psi"),
     ("an immense exponent", "prove", changed("30_000_000", "3e9999"), "[prover], modulus: 3e9999 has too many digits"),
@@ -108,7 +108,7 @@ CASES = (
     ("no metal", "prove", changed('metal = "mild carbon"\n', ""),
      "[prover], metal: missing: expected one of mild carbon"),
     ("record too short", "prove", GOOD + '[[run]]\nrecord = "00ff"\n',
-     "run 6, record: expected 32 bytes in hex, found 2"),
+     "run 6, record: expected 32 or 48 bytes in hex, found 2"),
     ("record not hex", "prove", GOOD + '[[run]]\nrecord = "xyz"\n', "run 6, record: expected hex digits, two a byte"),
     ("record not alone", "prove", GOOD + f'[[run]]\npulses = 1\nrecord = "{"00" * 32}"\n',
      "run 6, record: expected alone: a record holds every field"),
@@ -186,7 +186,7 @@ def test():
         places = (("prove", Path(folder) / "none.toml", "No such file"), ("prove", folder, "Is a directory"))
         places += (("read", Path(folder) / "none", "No such file"), ("book", Path(folder) / "none", "No such file"))
         for command, place, expected in places:
-            status, out, err = run(command, place)
+            status, out, err = called(command, place)
             tally.same((status, out), (2, ""), f"{place}: status and page")
             tally.holds(err, f"{place}: cannot be read: {expected}", command)
         path.write_text("title = 3\n")
@@ -195,8 +195,8 @@ def test():
         tally.holds(out, "holds no job: expected [[run]], [[fill]], [ticket], [live] or [panel]", "rework")
         path.unlink()
         for place in (folder, path):
-            tally.same(run("rework", place)[0], 2, f"rework of {place}")
-    status, _, err = run("read", "--hex", "0g")
+            tally.same(called("rework", place)[0], 2, f"rework of {place}")
+    status, _, err = called("read", "--hex", "0g")
     tally.same((status, err), (2, "--hex: expected hex digits, two a byte, spaces allowed\n"), "read --hex")
     tally.same(run("prove")[0], 2, "no file named")
     return tally

@@ -82,8 +82,14 @@ def later_use(tally, fresh):
     status, _, err = fresh.run()
     tally.same((status, err, fresh.builds), (0, "", 1), "second use: nothing is built")
     now = time.time()
-    for place in (fresh.root / "target").rglob("*"):
-        os.utime(place, (now - 100, now - 100))
+    for name, ago in (("crates", 200), ("target", 100)):
+        for place in (fresh.root / name).rglob("*"):
+            os.utime(place, (now - ago, now - ago))
+    os.utime(fresh.root / "crates.txt", (now - 200, now - 200))
+    wrong = fresh.source.parents[1] / "must-fail" / "wave_1.edit"
+    wrong.parent.mkdir()
+    wrong.write_text("")
+    tally.same((fresh.run()[0], fresh.builds), (0, 1), "a newer wrong program: nothing is built")
     os.utime(fresh.source, (now - 50, now - 50))
     status, _, err = fresh.run()
     tally.same((status, fresh.builds), (0, 2), "a newer source: built again")

@@ -39,7 +39,7 @@ def of_proving(job, runs, outcome, program):
 
         def mean(limit):
             words = (1, *job.prover.words, job.k_factor, limit, hexed(bytes(32)), five)
-            return asked(program, "prove", *words)
+            return asked(program, f"prove{job.form.ending}", *words)
 
         own = mean(job.limit)
         # A five beyond the job's limit has its mean told at the widest, where it may be beyond that as well.

@@ -27,6 +27,13 @@ SHOWN = {
         "Meter factor              0.9547",
     ),
     "flow-computer.toml": ("Runs from a flow computer", "Meter factor              0.9963"),
+    "interpolated.toml": (
+        "1 * | 628.406 | 63.0   80 0.9975 0.00000823 |",
+        "4 * | 628.594 | 63.0",
+        "4 * | 1.0001 1.0000 1.0007 0.9983 0.6239 |    0.6286 1.0005 0.9970 0.6267 | 0.9955",
+        "Spread                    0.030 % (rounded) of the smallest; limit 0.05 %: met",
+        "Meter factor              0.9957",
+    ),
     "water-draw.toml": ("21,179.67", "21,182.13", "21,182.15", "21,181.32 in³", "2.1832 bbl"),
     "bidirectional-draw.toml": (
         " bidirectional pipe prover, API MPMS 12.2 Part 4\n",
@@ -87,6 +94,8 @@ SHOWN = {
         "40 psi, shown as 40 psi (single 42200000)",
     ),
     "report-7.record": ("Meter factor              1.0002", "2 to 6 of 6", "Run factor, run 6         1.0005"),
+    "runs.records": ("moved forward into /dev/null: from 160 bytes, 32 a record, to 240 bytes, 48 a record\n",),
+    "runs-long.records": ("moved back into /dev/null: from 240 bytes, 48 a record, to 160 bytes, 32 a record\n",),
     "book.txt": (
         "request 101 of shipper 0 is taken",
         "\n  shipper 0  reserve 2  ceiling 8  2 waiting: 102 103\n",
@@ -115,15 +124,17 @@ COMMANDS = {
     "live-celsius.toml": "live",
     "panel.toml": "panel",
     "report-7.record": "read",
+    "runs.records": "move",
+    "runs-long.records": "move",
     "book.txt": "book",
     "agreement.txt": "book",
 }
 
-# Refusals are named by their command, or by the profile of a draw.
-NAMED = {"bidirectional": "draw", "lookup": "look-up"}
+# Refusals are named by their command, by the profile of a draw, or by the way back of a move.
+NAMED = {"bidirectional": "draw", "lookup": "look-up", "back": "move"}
 
-# 01's table, with what 02 adds: the numbers that each command can give. prove lends 32 bytes itself, so 14 cannot arise
-# there; a proving and a ticket may be refused for what they look up.
+# 01's table, with what 02 adds: the numbers that each command can give. prove lends 32 bytes itself, and move what its
+# records take, so 14 cannot arise there; a proving and a ticket may be refused for what they look up.
 NUMBERS = {
     "prove": {1, 2, 3, 4, 5, 7, 8, 9, 13, 22, 32, 33},
     "draw": {1, 2, 3, 5, 6, 9},
@@ -133,6 +144,8 @@ NUMBERS = {
     "live": {12, 13, 34, 35},
     "panel": {13},
     "read": {14, 15},
+    "move": {1, 2, 5},
+    "back": {1, 2, 5, 36},
     "book": {20, 21, 22, 23, 24, 25, 26, 27, 30, 31},
 }
 # The same in words.
@@ -146,12 +159,33 @@ WORDS = {
     22: "number zero", 23: "already waiting", 24: "ceiling reached",
     25: "has its reserve or more and commons full", 26: "withdrawn number not waiting", 27: "nothing to take",
     30: "book not empty", 31: "figures outside the rules", 32: "faulty or disordered record", 33: "no such pair",
-    34: "fault code from a transmitter", 35: "channel of the wrong kind",
+    34: "fault code from a transmitter", 35: "channel of the wrong kind", 36: "pulse count not whole",
 }  # fmt: skip
 SAID, ASKED = "# refused: ", "# asked: "
+# What is said of files that hold bytes alone.
 RECORD_WORDS = {
-    "read-14-cut-short.record": "record has 31 bytes, range 32",
-    "read-15-not-the-mean.record": "job factor is 1.0003, range the rounded mean of the five",
+    "read-14-cut-short.record": ["record has 31 bytes, range 32"],
+    "read-15-not-the-mean.record": ["job factor is 1.0003, range the rounded mean of the five"],
+    "move-01-cut-short.records": [
+        "150 bytes: 4 records of the short form, 32 bytes each, and 22 bytes over, range whole records",
+    ],
+    "move-01-long-form.records": [
+        "240 bytes: 7 records of the short form, 32 bytes each, and 16 bytes over, range whole records",
+        "as 5 records of the long form, 48 bytes each, they are moved with --back",
+    ],
+    "move-02-unnamed-byte.records": ["record 2: byte 25 is 01, range 00"],
+    "move-05-too-hot.records": ["record 4: prover temperature is 250.0 °F, range -20.0 to 200.0 °F"],
+    "back-01-short-form.records": [
+        "160 bytes: 3 records of the long form, 48 bytes each, and 16 bytes over, range whole records",
+        "as 5 records of the short form, 32 bytes each, they are moved without --back",
+    ],
+    "back-02-unnamed-byte.records": ["record 2: byte 40 is 01, range 00"],
+    "back-05-less-than-a-pulse.records": [
+        "record 3: pulses is 0.999 pulses, range 1.000 to 100,000,000.000 pulses",
+    ],
+    "back-36-parts-of-a-pulse.records": [
+        "record 3: pulses is 17,746.125 pulses, not whole: the short form holds whole pulses alone",
+    ],
 }
 
 
@@ -159,8 +193,13 @@ def accepted(tally):
     others = {"morning.txt", "README.md", "flow-computer.csv"}
     names = {path.name for path in FOLDER.iterdir() if path.is_file()} - others
     tally.same(names, set(SHOWN), "files of examples/")
+    by_process = set()
     for name in sorted(names & set(SHOWN)):
-        status, out, err = run(COMMANDS.get(name, "prove"), FOLDER / name, *asked_of(FOLDER / name))
+        command = COMMANDS.get(name, "prove")
+        # Each command once as people do.
+        ask = called if command in by_process else run
+        by_process.add(command)
+        status, out, err = ask(command, FOLDER / name, *asked_of(FOLDER / name))
         tally.same((status, err), (0, ""), f"{name}: status and complaints")
         for part in SHOWN[name]:
             tally.holds(out, part, name)
@@ -173,7 +212,10 @@ def named(path):
 
 
 def asked_of(path):
-    """What stands behind the file on the command line: the temperature and the gravity that a table's example says."""
+    """What stands behind the file on the command line: the temperature and the gravity that a table's example says; of
+    run records where they go, and which way."""
+    if path.suffix == ".records":
+        return ["/dev/null", *["--back"] * (path.name.startswith("back-") or path.name == "runs-long.records")]
     lines = path.read_text().splitlines() if path.suffix == ".csv" else []
     return [word for line in lines if line.startswith(ASKED) for word in line.removeprefix(ASKED).split()]
 
@@ -181,7 +223,7 @@ def asked_of(path):
 def told_in(path):
     """The words that a refusal's file says will come: its first line, or its first lines where they are several."""
     if path.name in RECORD_WORDS:
-        return [RECORD_WORDS[path.name]]
+        return RECORD_WORDS[path.name]
     lines = [line for line in path.read_text().splitlines() if line.startswith(SAID)]
     return [line.removeprefix(SAID) for line in lines]
 

@@ -8,6 +8,7 @@ import select
 import subprocess
 import time
 from pathlib import Path
+from unittest import mock
 
 ROOT = Path(__file__).resolve().parents[2]
 LAUNCHER = ROOT / "endakuro"
@@ -43,13 +44,14 @@ def run(*words, given="", folder="/", env=None):
     return done.returncode, done.stdout, done.stderr
 
 
-def called(*words):
-    """The same without a process of its own, which is quicker where there are many."""
-    from front import cli
+def called(*words, given=""):
+    """The same without processes of its own, which is quicker where there are many."""
+    from inside import main
 
+    read = io.TextIOWrapper(io.BytesIO(given.encode()), encoding="utf-8")
     out, err = (io.TextIOWrapper(io.BytesIO(), encoding="utf-8", write_through=True) for _ in range(2))
-    with contextlib.redirect_stdout(out), contextlib.redirect_stderr(err):
-        status = cli.main([str(word) for word in words])
+    with contextlib.redirect_stdout(out), contextlib.redirect_stderr(err), mock.patch("sys.stdin", read):
+        status = main([str(word) for word in words])
     return status, *(stream.buffer.getvalue().decode() for stream in (out, err))
 
 

@@ -1,6 +1,6 @@
 """--help of everything: each command is listed, and its help names its options and every key with its range."""
 
-from harness import Tally, run
+from harness import Tally, called, run
 
 from front import fields
 
@@ -15,6 +15,7 @@ KEYS = {
     "panel": fields.PANEL,
     "read": {},
     "look-up": fields.ENTRY,
+    "move": {},
     "book": {},
     "rework": {},
     "new": {},
@@ -26,6 +27,7 @@ WORDS = {
         *("--record OUT", "--worksheet OUT", "--plot OUT", "--html OUT"),
         *("[prover]", "[meter]", "[[run]]", "[every_run]", *fields.METALS),
         *("[compressibility]", "\n  table  ", "one that is typed is used as typed"),
+        *("1 to 100,000,000 pulses; up to 3 decimals where interpolated\n", "the run's record, 32 or 48 bytes"),
     ),
     "draw": (
         *("--worksheet OUT", "--html OUT", "[prover]", "[[fill]]", "[every_fill]", *fields.METALS),
@@ -41,6 +43,10 @@ WORDS = {
     "look-up": (
         *("TABLE.csv TEMPERATURE GRAVITY", "TEMPERATURE      -20.0 to 200.0 °F", "GRAVITY          0.0 to 90.0 °API"),
         *("--html OUT", "1 to 4,096 entries", "0.448 stands for 0.00000448 per psi", "half degree", "begin with #"),
+    ),
+    "move": (
+        *("[--back] [--force] OLD NEW\n", "1 to 4,096 records", "The short form has 32 bytes", "The long one has 48"),
+        *("NEW is written whole or not at", "- is standard input", "- is standard output", "every count is whole"),
     ),
     "new": ("KIND", "prove, draw, bidirectional, ticket, live, panel, table", "OUT.toml", "OUT.csv", "--force"),
     "lines": ("docs/LINES.md",),
@@ -61,7 +67,7 @@ def test():
     tally.same(status, 0, "--help: status")
     for command, known in KEYS.items():
         tally.holds(top, f"\n    {command} ", "--help")
-        status, text, _ = run(command, "--help")
+        status, text, _ = called(command, "--help")
         tally.same(status, 0, f"{command} --help: status")
         for word in (*WORDS[command], "exit status: 0 accepted; 1 refused"):
             tally.holds(text, word, command)

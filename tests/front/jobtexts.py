@@ -2,6 +2,7 @@
 
 import itertools
 import random
+import re
 from dataclasses import asdict, replace
 
 from cases import draw_halves as half_cases
@@ -12,7 +13,7 @@ from cases.plain import fitted_job
 from cases.proving_days import valid_job, valid_prover
 from cases.shapes import Draw, Fill, Job, Prover, Run
 from front import fields
-from front.records import LENGTH, RUN_LAYOUT
+from front.records import SHORT
 from front.units import shown
 
 
@@ -45,6 +46,21 @@ def proving_text(job):
     return text
 
 
+def in_parts(text, rng):
+    """A proving's file with three decimals in every count of pulses."""
+    return re.sub(r"pulses = (\d+)", lambda found: f"pulses = {found[1]}.{rng.randrange(1000):03}", text)
+
+
+def pulse_halves():
+    """Provings in parts of a pulse whose indicated volumes are exact halves, or a thousandth of a pulse beside one."""
+    for beside in (0, 1, -1):
+        counts = [200_000_100 + 200 * at + beside for at in range(5)]
+        job = fitted_job(Run(200_000), Prover(base=1_000_000), 2_000_000)
+        runs = "".join(f"[[run]]\npulses = {shown(count, 3, group=False)}\n" for count in counts)
+        head, first, *_ = re.split(r"\[\[run\]\]\npulses = \d+\n", proving_text(job))
+        yield f"{head}[every_run]\n{first}{runs}"
+
+
 def draw_text(draw):
     text = prover_text(draw.prover, False)
     names = {"certified_volume": "certified", "scale_reading": "scale"}
@@ -75,8 +91,8 @@ def days(count, seed):
 def from_line(line):
     """The job of a `prove` line of tests/cases."""
     _, request, *settings, k_factor, limit, _, records = line.decode().split()
-    octets = bytes.fromhex(records)
-    runs = [Run(**RUN_LAYOUT.unpack(octets[at : at + LENGTH])) for at in range(0, len(octets), LENGTH)]
+    octets, layout = bytes.fromhex(records), SHORT.layout
+    runs = [Run(**layout.unpack(octets[at : at + layout.length])) for at in range(0, len(octets), layout.length)]
     return Job(tuple(runs), Prover(*map(int, settings)), int(k_factor), int(limit), int(request))
 
 
@@ -86,7 +102,7 @@ def halves(count, seed):
     warm, cold = Run(prover_temperature=700), Run(prover_temperature=500)
     aimed = [fitted_job(run, Prover(4, 250), 10_000_000) for run in (warm, cold)]
     aimed.append(fitted_job(Run(prover_pressure=30), Prover(inside=25_000, wall=500), 10_000_000))
-    lines = (line for line in proving_halves.halves(rng) if line.startswith(b"prove"))
+    lines = (line for line in proving_halves.halves(rng) if line.startswith(b"prove "))
     return aimed + [from_line(line) for line in itertools.islice(lines, count - len(aimed))]
 
 

@@ -6,7 +6,7 @@ import subprocess
 import tempfile
 from pathlib import Path
 
-from harness import LAUNCHER, Tally, run
+from harness import LAUNCHER, Tally, called, run
 from losses import small_files
 
 UP, LEFT = "\x1b[A", "\x1b[D"
@@ -47,7 +47,7 @@ def between_sessions(tally, folder):
 def by_agreement(tally, folder):
     """Figures are kept with the book."""
     kept = folder / "book.txt"
-    tally.same(run("book", "--keep", kept, given="set 5 2 2 2 12 6 6 6\n")[0], 0, "figures set")
+    tally.same(called("book", "--keep", kept, given="set 5 2 2 2 12 6 6 6\n")[0], 0, "figures set")
     tally.same(step_in(kept), "load 3 - - - - 5 2 2 2 12 6 6 6", "figures are kept")
     for given, step in (
         ("set 1 1 1 1 8 8 8 9", "load 3 - - - - 1 1 1 1 8 8 8 9"),
@@ -55,20 +55,21 @@ def by_agreement(tally, folder):
         ("request 3 55\nwithdraw 3 55", "load 3 - - - - 1 1 1 1 8 8 8 9"),
         ("set 5 2 2 2 12 6 6 6", "load 3 - - - - 5 2 2 2 12 6 6 6"),
     ):
-        tally.same((run("book", "--keep", kept, given=f"{given}\n")[0], step_in(kept)), (0, step), f"{given!r}, kept")
+        status, _, _ = called("book", "--keep", kept, given=f"{given}\n")
+        tally.same((status, step_in(kept)), (0, step), f"{given!r}, kept")
     asks = "".join(f"request 0 {number}\n" for number in range(1, 12))
-    status, out, _ = run("book", "--keep", kept, given=asks)
+    status, out, _ = called("book", "--keep", kept, given=asks)
     told = "shipper 0 has 10 waiting, range up to its reserve of 5 while the commons are used up, 5 of 5\n"
     tally.holds(out, told, "the commons of kept figures")
     tally.same((status, step_in(kept)), (1, "load 3 1,2,3,4,5,6,7,8,9,10 - - - 5 2 2 2 12 6 6 6"), "kept with figures")
     before = kept.read_bytes()
     for step, number in (("set 2 2 2 2 8 8 8 8", 30), ("request 0 1", 23)):
-        status, out, _ = run("book", "--keep", kept, given=f"{step}\n")
+        status, out, _ = called("book", "--keep", kept, given=f"{step}\n")
         tally.check(status == 1 and f"\nrefused {number}: " in out, f"{step}: {out!r}")
         tally.same(kept.read_bytes(), before, f"{step}: a refused step keeps nothing new")
     for figures in ("5 4 4 4 12 8 8 8", "0 2 2 2 8 8 8 8", "5 2 2 2 4 6 6 6"):
         kept.write_text(f"load 3 - - - - {figures}\n")
-        status, out, err = run("book", "--keep", kept, given="set 2 2 2 2 8 8 8 8\n")
+        status, out, err = called("book", "--keep", kept, given="set 2 2 2 2 8 8 8 8\n")
         tally.same((status, out, step_in(kept)), (2, "", f"load 3 - - - - {figures}"), f"no kept book: {figures}")
         tally.check(err.startswith(f"{kept}: --keep: holds no kept book: it is not sound: "), f"{figures}: {err!r}")
     tally.check(err.endswith(": ceiling of shipper 0 is 4, range 5 (its reserve) to 16\n"), f"what is wrong: {err!r}")
@@ -81,16 +82,16 @@ def without_figures(tally, folder):
     for last, lines in ((3, "- - - -"), (1, "101,102 - 7 -"), (0, "1,2,3,4,5,6,7,8 - - -")):
         old = notes + f"load {last} {lines}".encode()
         kept.write_bytes(old)
-        status, out, err = run("book", "--keep", kept, given="book\nrequest 0 0\nhelp\n")
+        status, out, err = called("book", "--keep", kept, given="book\nrequest 0 0\nhelp\n")
         tally.same((status, err, kept.read_bytes()), (1, "", old), f"{lines}: nothing has changed")
         tally.same(out.count("reserve 2  ceiling 8"), 8, f"{lines}: figures of a new book")
         tally.holds(out, f"\n  last served: shipper {last}\n", lines)
-        tally.same(run("book", "--keep", kept, given="load 9 - - - -\nbook\n")[0], 1, f"{lines}: a book not sound")
+        tally.same(called("book", "--keep", kept, given="load 9 - - - -\nbook\n")[0], 1, f"{lines}: a book not sound")
         tally.same(kept.read_bytes(), old, f"{lines}: a book that is not sound is not kept")
-        tally.same(run("book", "--keep", kept, given="request 3 55\n")[0], 0, f"{lines}: a change")
+        tally.same(called("book", "--keep", kept, given="request 3 55\n")[0], 0, f"{lines}: a change")
         changed = lines[:-1] + "55"
         tally.same(step_in(kept), f"load {last} {changed} 2 2 2 2 8 8 8 8", f"{lines}: written with figures")
-        tally.same(run("book", "--keep", kept, given="withdraw 3 55\n")[0], 0, f"{lines}: and back")
+        tally.same(called("book", "--keep", kept, given="withdraw 3 55\n")[0], 0, f"{lines}: and back")
         tally.same(step_in(kept), f"load {last} {lines} 2 2 2 2 8 8 8 8", f"{lines}: nothing is lost")
         stays = notes.replace(b"\r\n", b"\n")
         tally.check(kept.read_bytes().startswith(stays + b"load "), f"{lines}: notes stay: {kept.read_bytes()!r}")
@@ -101,17 +102,17 @@ def left_alone(tally, folder):
     notes, steps = folder / "notes.txt", folder / "steps.txt"
     for content in ("my notes\n", "request 0 1\n", "load 3 - - - -\nload 3 - - - -\n", "load 9 - - - -\n", "load 3\n"):
         notes.write_text(content)
-        status, out, err = run("book", "--keep", notes, given="request 0 1\n")
+        status, out, err = called("book", "--keep", notes, given="request 0 1\n")
         tally.same((status, out, notes.read_text()), (2, "", content), f"no kept book: {content!r}")
         tally.check(err.startswith(f"{notes}: --keep: "), f"no kept book: {err!r}")
     steps.write_text("request 0 1\n")
-    status, _, err = run("book", steps, "--keep", steps)
+    status, _, err = called("book", steps, "--keep", steps)
     tally.same((status, steps.read_text()), (2, "request 0 1\n"), "the session's own file")
     os.mkfifo(folder / "pipe")
     for place in (folder, "-", folder / "pipe"):
-        tally.same(run("book", "--keep", place, given="request 0 1\n")[0], 2, f"--keep {place}")
+        tally.same(called("book", "--keep", place, given="request 0 1\n")[0], 2, f"--keep {place}")
     kept = folder / "kept.txt"
-    run("book", "--keep", kept, given="request 0 1\n")
+    called("book", "--keep", kept, given="request 0 1\n")
     before = kept.read_bytes()
     full = [str(LAUNCHER), "book", "--keep", str(kept)]
     many = "".join(f"request {at % 4} {4_000_000_000 + at}\n" for at in range(60)).encode()
@@ -122,9 +123,9 @@ def left_alone(tally, folder):
     tally.same(step_in(kept), "load 3 1,4000000000 - - - 2 2 2 2 8 8 8 8", "a full disk: the last that fits")
     empty = folder / "empty.txt"
     empty.touch()
-    tally.same(run("book", "--keep", empty, given="request 0 1\n")[0], 0, "an empty file is a new book")
+    tally.same(called("book", "--keep", empty, given="request 0 1\n")[0], 0, "an empty file is a new book")
     notes.write_text("# Mine.\n")
-    tally.same(run("book", "--keep", notes, given="request 0 1\n")[0], 0, "a file of notes is a new book")
+    tally.same(called("book", "--keep", notes, given="request 0 1\n")[0], 0, "a file of notes is a new book")
     tally.same(notes.read_text(), "# Mine.\nload 3 1 - - - 2 2 2 2 8 8 8 8\n", "notes stay")
 
 
@@ -137,7 +138,7 @@ def two_sessions(tally, folder):
     one.stdin.flush()
     while "last served" not in one.stdout.readline():
         pass
-    tally.same(run("book", "--keep", kept, given="request 1 2\n")[0], 0, "another session")
+    tally.same(called("book", "--keep", kept, given="request 1 2\n")[0], 0, "another session")
     now = kept.read_bytes()
     _, err = one.communicate("request 2 3\n", timeout=30)
     tally.same((one.returncode, kept.read_bytes()), (3, now), "a session that comes too late")

@@ -10,7 +10,7 @@ from hashlib import sha256
 from pathlib import Path
 
 import tabletexts
-from harness import ROOT, Tally, called, run
+from harness import ROOT, Tally, called
 from reports import widest
 from tabletexts import csv_of
 
@@ -177,7 +177,7 @@ def missed(tally, folder, program):
         tally.holds(page.read_text(), part, "the page of a refused look-up")
     tally.same(called("verify", page, job)[0], 0, "the page of a refused look-up")
     results = folder / "missed.csv"
-    run("rework", job, "--csv", results)
+    called("rework", job, "--csv", results)
     for part in (",refused,8,", ",33,0,refused 33: no such pair; run 4,"):
         tally.holds(results.read_text("utf-8-sig").replace('"', ""), part, "its row")
     tally.same(called("verify", results, job)[0], 0, "its row")
@@ -235,11 +235,11 @@ def seen(tally, folder, program):
         job.write_text(text)
         reports = page, sheet, results = [folder / f"{kind}-{end}" for end in ("page.html", "sheet.csv", "results.csv")]
         for words in ((kind, job, "--worksheet", table), ("rework", job, "--csv", table)):
-            status, _, err = run(*words, "--force")
+            status, _, err = called(*words, "--force")
             tally.check(status == 2 and "is read by this command" in err, f"{words[0]} onto the table: {err}")
         tally.same(table.read_text(), content, f"{kind}: the table")
         called(kind, job, "--html", page, "--worksheet", sheet)
-        run("rework", job, "--csv", results)
+        called("rework", job, "--csv", results)
         known = f'"{TABLE}, SHA-256 {sha256(content.encode()).hexdigest()}"'
         for part in (",looked up,", known, "F's line in the table,,,"):
             tally.holds(sheet.read_text("utf-8-sig"), part, f"{kind}: worksheet")
@@ -254,7 +254,7 @@ def seen(tally, folder, program):
     job, table = folder / "onto.toml", folder / "onto.html"
     job.write_text(changed(TICKET, TABLE, table.name))
     table.write_text(content)
-    status, _, err = run("rework", job, "--reports", folder, "--csv", folder / "onto.csv", "--force")
+    status, _, err = called("rework", job, "--reports", folder, "--csv", folder / "onto.csv", "--force")
     told = f"{table}: cannot be written: it is read by that job\n"
     tally.same((status, err, table.read_text()), (3, told, content), "a page onto the table")
 

@@ -6,6 +6,7 @@ import re
 import shutil
 import subprocess
 import tempfile
+from hashlib import sha256
 from pathlib import Path
 
 from examples import COMMANDS, WORDS, asked_of, named
@@ -110,7 +111,7 @@ def refused(tally, path):
 
 def record_of(tally, detail, record, name):
     """The record is the run or fill of the words; of a look-up it is the table's entry, whose line they have."""
-    at = re.match(r"(?:run|fill) (\d+): ", detail["words"])
+    at = re.match(r"(?:run|fill|record) (\d+): ", detail["words"])
     of_table = re.search(r"\bline (\d+): ", detail["words"])
     if of_table:
         tally.same((detail["line"], record > 0), (int(of_table[1]), True), f"{name}: line")
@@ -138,7 +139,7 @@ def values(tally):
 
 def bad(tally, folder):
     path = folder / "bad.toml"
-    path.write_text("request = 1\nrequset = 2\n[prover]\nmetal = 3\n[[run]]\npulses = 1.5\n")
+    path.write_text("request = 1\nrequset = 2\n[prover]\nmetal = 3\n[[run]]\npulses = 1.5555\n")
     status, line, err = called("prove", path, "--json")
     told = parsed(line)
     tally.same((status, told["outcome"]), (2, "bad file"), "a bad file")
@@ -219,6 +220,23 @@ def booked(tally):
         tally.same(found, expected, name)
 
 
+def moved(tally):
+    """Both files of run records: how many, how long, by which digest they are known."""
+    short, long = (EXAMPLES / name for name in ("runs.records", "runs-long.records"))
+    for direction, (old, new) in {"forward": (short, long), "back": (long, short)}.items():
+        status, line, err = called("move", old, *asked_of(old), "--json")
+        told = parsed(line)
+        files = [
+            {"form": "long" if path is long else "short", "records": 5, "length": path.stat().st_size,
+             "sha256": sha256(path.read_bytes()).hexdigest()}
+            for path in (old, new)
+        ]  # fmt: skip
+        named = [{"file": str(old), **files[0]}, {"file": "/dev/null", **files[1]}]
+        tally.same((status, err, told["outcome"], told["direction"]), (0, "", "accepted", direction), direction)
+        tally.same([told["from"], told["to"]], named, direction)
+        documented(tally, told, direction)
+
+
 def begun(tally):
     told = parsed(called("new", "ticket", "--json")[1])
     tally.same((told["kind"], told["text"]), ("ticket", called("new", "ticket")[1]), "new")
@@ -232,9 +250,9 @@ def test():
         if path.suffix in (".toml", ".record") or command == "look-up":
             accepted(tally, path, command)
     for path in sorted((EXAMPLES / "refusals").iterdir()):
-        if path.suffix in (".toml", ".record", ".csv"):
+        if path.suffix in (".toml", ".record", ".records", ".csv"):
             refused(tally, path)
-    for part in (values, booked, begun):
+    for part in (values, booked, begun, moved):
         part(tally)
     for part in (bad, reworked):
         with tempfile.TemporaryDirectory() as folder:

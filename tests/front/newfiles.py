@@ -27,6 +27,8 @@ def job_files(tally, folder):
             lines = [line for line in text.splitlines() if line.removeprefix("# ").startswith(f"{key} = ")]
             tally.check(any(f"# {field.label}, {field.range}" in line for line in lines), f"new {kind}: {key}")
         tally.check(max(map(len, text.splitlines())) <= 120, f"new {kind}: a line is too long")
+        decimals = text.count("1 to 100,000,000 pulses; up to 3 decimals where interpolated\n")
+        tally.same(decimals, int(kind == "prove"), f"new {kind}: decimals of a pulse")
         if command == "draw":
             profile = "bidirectional" if kind in NAMED else "unidirectional"
             tally.holds(text, f'\nprofile = "{profile}" # ', f"new {kind}")

@@ -12,7 +12,7 @@ SAVE = "csv:Text - txt - csv (StarCalc):44,34,76,1,,0,false,false,false"
 # The same of every sheet of a workbook, into a file each, as shown or in full.
 SAVE_ALL = "csv:Text - txt - csv (StarCalc):44,34,76,1,,0,false,false,{shown},false,false,-1"
 # More files in one call than this, and LibreOffice leaves the rest out without a word.
-MOST_FILES = 100
+MOST_FILES = 200
 
 
 def converted(paths, folder, done, words):

@@ -7,7 +7,7 @@ import subprocess
 import tempfile
 from pathlib import Path
 
-from harness import LAUNCHER, ROOT, Tally, run
+from harness import LAUNCHER, ROOT, Tally, called, run
 
 EXAMPLES = ROOT / "examples"
 NAMES = {"record": "7.record", "worksheet": "7.csv", "plot": "7.svg", "html": "7.html"}
@@ -19,7 +19,7 @@ def outputs(folder):
 
 def prove(example, places):
     words = [word for name, place in places.items() for word in (f"--{name}", place)]
-    return run("prove", EXAMPLES / example, *words)
+    return called("prove", EXAMPLES / example, *words)
 
 
 def wild_names(tally):
@@ -31,10 +31,12 @@ def wild_names(tally):
             ends = ("--html", "html"), ("--worksheet", "csv"), ("--worksheet", "xlsx"), ("--plot", "svg")
             for option, end in ends:
                 out = Path(folder) / f"{number}.{end}"
-                status, shown, err = run("prove", os.fsdecode(job), option, out)
+                # A command line's bytes are read once.
+                ask = run if end == "html" else called
+                status, shown, err = ask("prove", os.fsdecode(job), option, out)
                 tally.same((status, err), (0, ""), f"{name} {option} {end}")
                 tally.check("\x1b" not in shown and "\x1b".encode() not in out.read_bytes()[:2], f"{name}: {end}")
-                tally.same(run("verify", out, os.fsdecode(job))[0], 0, f"{name}: verify {end}")
+                tally.same(called("verify", out, os.fsdecode(job))[0], 0, f"{name}: verify {end}")
 
 
 def endings(tally):
@@ -49,12 +51,12 @@ def endings(tally):
         ):
             path, plot = Path(folder) / name, Path(folder) / "other.svg"
             more = ("--plot", plot) if option != "--plot" else ()
-            status, out, err = run("prove", EXAMPLES / "second-five.toml", option, path, *more)
+            status, out, err = called("prove", EXAMPLES / "second-five.toml", option, path, *more)
             tally.same((status, out, err), (2, "", f"{path}: {option}: {expected}\n"), name)
             tally.check(not path.exists() and not plot.exists(), f"{name}: something is written")
         for option, name in (("--worksheet", "w.CSV"), ("--html", "h.htm")):
             path = Path(folder) / name
-            tally.same(run("ticket", EXAMPLES / "ticket.toml", option, path)[0], 0, name)
+            tally.same(called("ticket", EXAMPLES / "ticket.toml", option, path)[0], 0, name)
             tally.check(path.exists(), f"{name} is not written")
 
 
@@ -68,12 +70,12 @@ def test():
         tally.holds(places["plot"].read_text(), "</svg>", "plot")
         tally.holds(places["html"].read_text(), "</html>", "page for print")
         tally.holds(places["html"].read_text(), "</svg>", "plot in the page for print")
-        status, out, _ = run("read", places["record"])
+        status, out, _ = called("read", places["record"])
         tally.same(status, 0, "the record is read back")
         tally.holds(out, "Meter factor              1.0002", "the record is read back")
-        status, out, _ = run("read", "--hex", places["record"].read_bytes().hex(" "))
+        status, out, _ = called("read", "--hex", places["record"].read_bytes().hex(" "))
         tally.holds(out, "Meter factor              1.0002", "the record in hex is read back")
-    status, _, err = run("read", "--hex", "")
+    status, _, err = called("read", "--hex", "")
     tally.same((status, err.splitlines()[-1]), (1, "   record has 0 bytes, range 32"), "no bytes")
     written = {"prove-05-too-hot.toml": ["html"], "prove-09-runs-drift.toml": ["worksheet", "plot", "html"]}
     for name, expected in written.items():
@@ -84,12 +86,12 @@ def test():
     for command, example in (("draw", "water-draw.toml"), ("ticket", "ticket.toml")):
         with tempfile.TemporaryDirectory() as folder:
             sheet = Path(folder) / "sheet.csv"
-            tally.same(run(command, EXAMPLES / example, "--worksheet", sheet)[0], 0, f"{command} --worksheet")
+            tally.same(called(command, EXAMPLES / example, "--worksheet", sheet)[0], 0, f"{command} --worksheet")
             tally.holds(sheet.read_text(), "=ROUND(", f"{command} --worksheet")
     with tempfile.TemporaryDirectory() as folder:
         marked = Path(folder) / "marked.toml"
         marked.write_bytes(b"\xef\xbb\xbf" + (EXAMPLES / "ticket.toml").read_bytes().replace(b"\n", b"\r\n"))
-        tally.same(run("ticket", marked)[0], 0, "a file as a Windows editor writes it")
+        tally.same(called("ticket", marked)[0], 0, "a file as a Windows editor writes it")
         link = Path(folder) / "link"
         link.symlink_to(LAUNCHER)
         done = subprocess.run([link, "ticket", marked.name], cwd=folder, capture_output=True, text=True)

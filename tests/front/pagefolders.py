@@ -4,7 +4,7 @@ import shutil
 import tempfile
 from pathlib import Path
 
-from harness import ROOT, Tally, called, run
+from harness import ROOT, Tally, called
 
 EXAMPLES = ROOT / "examples"
 JOBS = ("figure-5.toml", "water-draw.toml", "bidirectional-draw.toml", "ticket.toml", "live.toml", "panel.toml")
@@ -34,7 +34,7 @@ def test():
         folder = Path(name)
         month, pages = filled(folder), folder / "pages"
         words = ("rework", month, "--recursive", "--csv", folder / "out.csv")
-        status, out, err = run(*words, "--reports", pages)
+        status, out, err = called(*words, "--reports", pages)
         tally.same((status, err), (2, ""), "status and complaints")
         jobs = (*NAMES, "inner/figure-5")
         expected = sorted([*(f"{job}.html" for job in jobs), *(f"{job}.svg" for job in WITH_PLOT)])
@@ -48,22 +48,22 @@ def test():
         tally.holds(refused, "NOT ACCEPTED: refused 5", "a refused job's page")
         for page in pages.rglob("*.html"):
             page.write_text("of an earlier month")
-        status, _, err = run(*words, "--force", "--reports", pages)
+        status, _, err = called(*words, "--force", "--reports", pages)
         tally.same(status, 2, "--force")
         tally.check("of an earlier" not in (pages / "ticket.html").read_text(), "--force writes over a page")
         (folder / "out.csv").unlink()
         (pages / "ticket.html").write_text("of an earlier month")
-        status, out, err = run(*words, "--reports", pages)
+        status, out, err = called(*words, "--reports", pages)
         told = f"{pages / 'bidirectional-draw.html'}: --reports: is there already: --force writes over it\n"
         tally.same((status, err), (2, told), "without --force")
         tally.same((pages / "ticket.html").read_text(), "of an earlier month", "without --force")
         tally.check(not (folder / "out.csv").exists(), "without --force results are written")
-        status, _, err = run(*words, "--reports", month / "bad.toml")
+        status, _, err = called(*words, "--reports", month / "bad.toml")
         tally.same((status, err), (2, f"{month / 'bad.toml'}: --reports: is a file: expected a folder\n"), "a file")
         linked = folder / "linked"
         linked.mkdir()
         (linked / "ticket.html").symlink_to(month / "ticket.toml")
-        status, _, err = run(*words, "--force", "--reports", linked)
+        status, _, err = called(*words, "--force", "--reports", linked)
         tally.check(status == 2 and "is read by this command" in err, f"a link to a job: {err}")
         tally.same((month / "ticket.toml").read_bytes(), (EXAMPLES / "ticket.toml").read_bytes(), "the job")
     return tally

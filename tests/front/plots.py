@@ -105,6 +105,7 @@ def test():
             if worked.has_figures:
                 drawn(tally, f"job {number}", worked)
         outliers(tally, Path(folder), program)
+        tally.same(plot.words("<a> & \"b\" 'c'\x07"), "&lt;a&gt; &amp; \"b\" 'c'?", "a text as XML holds it")
         out = Path(folder) / "out.svg"
         tally.same(run("prove", ROOT / "examples" / "second-five.toml", "--plot", out)[0], 0, "prove --plot")
         tally.same(len(marks(xml.parse(out).getroot(), "accepted")), 5, "second-five.toml: accepted marks")

@@ -21,6 +21,7 @@ PLACES = (
     ("prove", "second-five.toml", "meter", fields.named(fields.K_FACTOR), 4, 0),
     ("prove", "second-five.toml", "", fields.named(fields.LIMIT), 4, 0),
     ("prove", "second-five.toml", "run", fields.RUN, 5, 3),
+    ("prove", "interpolated.toml", "run", fields.INTERPOLATED_RUN, 5, 3),
     ("draw", "water-draw.toml", "prover", PROVER, 3, 0),
     ("draw", "water-draw.toml", "fill", OF_A_FILL, 5, 3),
     ("draw", "bidirectional-draw.toml", "prover", PROVER, 3, 0),

@@ -1,6 +1,7 @@
 """The report's digits over jobs by chance: every figure in its row and column is the file's or the line program's, and
 no line is wider than a page."""
 
+import random
 import tempfile
 from pathlib import Path
 
@@ -71,7 +72,7 @@ def proving(tally, name, job, program):
     if not worked.has_figures:
         tally.holds("\n".join(lines[:6]), "range 0.8000 to 1.2000", name)
         return
-    places = {key: field.unit.places for key, field in fields.RUN.items()} | dict.fromkeys(figures.OF_A_RUN, 4)
+    places = {key: field.unit.places for key, field in job.form.fields.items()} | dict.fromkeys(figures.OF_A_RUN, 4)
     tables = tables_after(lines, "B. RUNS")
     if tally.same(len(tables), 2, f"{name}: tables"):
         for table, columns in zip(tables, RUN_COLUMNS):
@@ -169,13 +170,16 @@ def widest():
     yield jobtexts.paired_text(jobtexts.widest_draws(20)[0])
     prover = 'metal = "mild carbon"\ninside_diameter = 60.000\nwall_thickness = 0.100\nmodulus = 10000000\n'
     most, least = ("10000.0000", "1.5000"), ("9500.0000", "0.5000")
-    for (base, ctl), equilibrium in ((most, 0), (least, 0), (least, 1000)):
+    whole, in_parts = "100000000", "99999999.999"
+    for (base, ctl), equilibrium, pulses in (
+        (most, 0, whole), (least, 0, in_parts), (least, 1000, whole), (least, 1000, in_parts),
+    ):  # fmt: skip
         shared = "".join(
             f"{side}_temperature = -20.0\n{side}_pressure = 1500\n{side}_ctl = {ctl}\n{side}_compressibility = 0.0001\n"
             f"{side}_equilibrium_pressure = {equilibrium}\n"
             for side in ("prover", "meter")
         )
-        runs = "[[run]]\npulses = 100000000\n" * 20
+        runs = f"[[run]]\npulses = {pulses}\n" * 20
         heading = f'[heading]\ntitle = "{"long words " * 30}"\nnote = "{"x" * 300}"\n'
         meter = f"[meter]\nk_factor = 10000.000\n[every_run]\n{shared}"
         yield f"request = 4294967295\n{heading}[prover]\n{prover}base_volume = {base}\n{meter}{runs}"
@@ -185,8 +189,10 @@ def test():
     tally = Tally("report digits")
     with tempfile.TemporaryDirectory() as folder, Program() as program:
         path = Path(folder) / "job.toml"
+        rng = random.Random(6)
         for number, given in enumerate(jobtexts.days(JOBS, 3)):
-            path.write_text(jobtexts.proving_text(given))
+            text = jobtexts.proving_text(given)
+            path.write_text(jobtexts.in_parts(text, rng) if number % 3 == 2 else text)
             proving(tally, f"job {number}", jobs.read(str(path), "prove"), program)
         for text, listed in (
             (jobtexts.draw_text, jobtexts.draws(JOBS, 4)),

@@ -13,7 +13,7 @@ from pathlib import Path
 
 import jobtexts
 from examples import named
-from harness import LAUNCHER, ROOT, Tally, at_terminal, run
+from harness import LAUNCHER, ROOT, Tally, at_terminal, called, run
 
 from front import version
 from front.results import COLUMNS
@@ -75,6 +75,8 @@ def figures_of(tally, rows):
         ("second-five.toml", {"meter factor": "1.0002", "first used": "2", "out of": "6", "request": "7",
          "K factor (pulses/bbl)": "10000.000", "base volume (bbl)": "20.0000", "limit (%)": "0.05",
          "spread (%)": "0.050", "report record": record, "gross (bbl)": ""}),
+        ("interpolated.toml", {"outcome": "accepted", "meter factor": "0.9957", "first used": "1", "out of": "5",
+         "K factor (pulses/bbl)": "1000.000", "base volume (bbl)": "0.6250", "spread (%)": "0.030"}),
         ("water-draw.toml", {"base volume (bbl)": "2.1832", "base volume (in³)": "21181.32", "first used": "1",
          "out of": "3", "limit (%)": "0.02", "spread (%)": "0.012", "meter factor": ""}),
         ("bidirectional-draw.toml", {"job": "draw", "base volume (bbl)": "4.3691", "base volume (in³)": "42389.19",
@@ -107,7 +109,7 @@ def headings(tally, folder):
         own = text.replace("= 7\n", f"= {1 + number % 2}\n") + HEADED.format(meter=meter)
         (folder / f"{number}.toml").write_text(own)
     (folder / "3.toml").write_text(drift)
-    status, out, _ = run("rework", folder, "--csv", folder / "out.csv")
+    status, out, _ = called("rework", folder, "--csv", folder / "out.csv")
     rows = rows_of(folder / "out.csv")
     tally.same(status, 1, "headings: status")
     told = {key: rows[0][key] for key in ("date", "meter", "liquid", "other headings", "title")}
@@ -134,18 +136,18 @@ def places(tally, folder):
     for place in (one / "a.toml", inner / "b.toml", two / "c.toml", folder / "named.txt", two / "notes.md"):
         shutil.copy(EXAMPLES / "ticket.toml", place)
     words = ("rework", one, two, folder / "named.txt", two / "c.toml", "--csv", "-")
-    status, out, err = run(*words)
+    status, out, err = called(*words)
     found = [row["file"] for row in csv.DictReader(io.StringIO(out.removeprefix("\ufeff")))]
     tally.same((status, found), (0, [str(one / "a.toml"), str(two / "c.toml"), str(folder / "named.txt")]), "places")
     told = "left out: 2 folders inside (--recursive goes into them), 1 files that are not *.toml\n"
     told += "3 jobs: 3 accepted, 0 refused, 0 bad file; results in standard output\n"
     tally.same(err, told, "what is left out")
-    status, out, err = run("rework", one, "--recursive", "--csv", "-")
+    status, out, err = called("rework", one, "--recursive", "--csv", "-")
     found = [row["file"] for row in csv.DictReader(io.StringIO(out.removeprefix("\ufeff")))]
     tally.same((status, found), (0, ["a.toml", "inner/b.toml"]), "--recursive")
     tally.holds(err, "left out: 1 links to folders\n", "--recursive")
     for place in (folder / "none", inner / "none.toml"):
-        status, _, err = run("rework", one, place, "--csv", folder / "x.csv")
+        status, _, err = called("rework", one, place, "--csv", folder / "x.csv")
         told = f"{place}: cannot be read: No such file or directory\n"
         tally.same((status, err, (folder / "x.csv").exists()), (2, told, False), "a place that is not there")
 
@@ -155,14 +157,14 @@ def from_input(tally, folder):
     text = (EXAMPLES / "ticket.toml").read_text()
     (folder / "a.toml").write_text(text)
     reports = folder / "pages"
-    status, out, err = run("rework", folder / "a.toml", "-", "-", "--csv", "-", "--reports", reports, given=text)
+    status, out, err = called("rework", folder / "a.toml", "-", "-", "--csv", "-", "--reports", reports, given=text)
     rows = list(csv.DictReader(io.StringIO(out.removeprefix("\ufeff"))))
     tally.same((status, [row["file"] for row in rows]), (0, [str(folder / "a.toml"), "standard input"]), "-")
     tally.same({row["SHA-256"] for row in rows}, {sha256(text.encode()).hexdigest()}, "-: SHA-256")
     pages = sorted(path.name for path in reports.iterdir())
     tally.same(pages, ["a.html", "standard-input.html"], "-: pages")
     tally.holds((reports / "standard-input.html").read_text(), "<dd>standard input</dd>", "-: its page")
-    status, out, err = run("rework", "-", "--csv", folder / "x.csv", given="[ticket]\nopening = 1\n")
+    status, out, err = called("rework", "-", "--csv", folder / "x.csv", given="[ticket]\nopening = 1\n")
     tally.same((status, rows_of(folder / "x.csv")[0]["SHA-256"]), (2, ""), "-: a bad file")
     tally.holds(err + out, "standard input: line 1: [ticket], closing", "-: a bad file")
     with open(folder / "a.toml") as given:
@@ -183,7 +185,7 @@ def statuses(tally, folder):
     for name in ("ticket.toml", "refusals/ticket-11-readings-exchanged.toml"):
         shutil.copy(EXAMPLES / name, folder)
         expected = 1 if "refusals" in name else 0
-        tally.same(run("rework", folder, "--csv", folder / "out.csv", "--force")[0], expected, name)
+        tally.same(called("rework", folder, "--csv", folder / "out.csv", "--force")[0], expected, name)
 
 
 def interrupted(tally, folder):

@@ -91,7 +91,7 @@ def test():
             status, out, err = called("book", path)
             # A file is checked before its first step.
             tally.same((status, out, err), (2, "", f"{path}: line 2: {words}\n"), line)
-            status, out, err = run("book", given=f"request 0 1\n{line}\ntake\n")
+            status, out, err = called("book", given=f"request 0 1\n{line}\ntake\n")
             tally.same((status, err), (2, f"standard input: line 2: {words}\n"), f"{line}, through a pipe")
             tally.check("is taken" not in out, f"{line}: the session went on")
     done = subprocess.run([LAUNCHER, "book"], input=b"request 0 1\n\xff\xfe\x1b[2J\n", capture_output=True, cwd="/")

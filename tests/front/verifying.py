@@ -12,7 +12,9 @@ from harness import ROOT, Tally, called
 
 EXAMPLES = ROOT / "examples"
 JOBS = {
-    "prove": ("second-five.toml", "figure-6.toml", "looked-up.toml", "refusals/prove-09-runs-drift.toml"),
+    "prove": (
+        "second-five.toml", "figure-6.toml", "looked-up.toml", "interpolated.toml", "refusals/prove-09-runs-drift.toml",
+    ),
     "draw": (
         "water-draw.toml", "refusals/draw-09-passes-drift.toml",
         "bidirectional-draw.toml", "refusals/bidirectional-09-trips-drift.toml",

@@ -12,7 +12,7 @@ import jobtexts
 import office
 from harness import ROOT, Tally, called
 from reports import widest
-from worksheets import MAKERS, formulas, looked_up
+from worksheets import MAKERS, formulas, in_parts, looked_up
 
 from front import jobs, workbook
 from front import worked as works
@@ -35,6 +35,7 @@ def texts():
     yield from map(jobtexts.ticket_text, jobtexts.tickets(TICKETS, 33))
     yield from widest()
     yield from looked_up()
+    yield from in_parts(3, 35)
     for name in ("prove-09-runs-drift", "bidirectional-09-trips-drift"):
         yield (EXAMPLES / "refusals" / f"{name}.toml").read_text()
 

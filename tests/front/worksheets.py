@@ -1,5 +1,6 @@
 """Worksheets opened with LibreOffice: every computed cell is the line program's figure."""
 
+import random
 import shutil
 import tempfile
 from pathlib import Path
@@ -8,6 +9,7 @@ import cells
 import jobtexts
 import office
 from harness import ROOT, Tally
+from reports import widest
 
 from front import draw_worksheet, jobs, ticket_worksheet
 from front import worked as works
@@ -15,7 +17,7 @@ from front import worksheet
 from front.program import Program
 from front.sheet import FIRST_COLUMN
 
-DAYS, HALVES, DRAWS, PAIRED, TICKETS = 150, 110, 20, 20, 48
+DAYS, HALVES, DRAWS, PAIRED, TICKETS, IN_PARTS = 150, 110, 20, 20, 48, 12
 # So many of them at least are of liquids that boil.
 BOILING = {"prover_equilibrium_pressure": 60, "meter_equilibrium_pressure": 60, "equilibrium_pressure": 8}
 
@@ -44,6 +46,7 @@ def texts():
     yield from map(jobtexts.paired_text, jobtexts.paired_draws(PAIRED, 6) + jobtexts.widest_draws(6))
     yield from map(jobtexts.ticket_text, jobtexts.tickets(TICKETS, 5))
     yield from looked_up()
+    yield from in_parts(IN_PARTS, 7)
 
 
 def looked_up():
@@ -52,6 +55,14 @@ def looked_up():
     typed = "prover_temperature = 63.5\nmeter_compressibility = 0.00000800\n"
     assert "prover_temperature = 63.5\n" in proving
     return proving, ticket, proving.replace("prover_temperature = 63.5\n", typed)
+
+
+def in_parts(count, seed):
+    """Jobs in thousandths of a pulse: by chance, at and beside exact halves of the indicated volume, the largest."""
+    rng = random.Random(seed)
+    yield from (jobtexts.in_parts(jobtexts.proving_text(job), rng) for job in jobtexts.days(count, seed))
+    yield from jobtexts.pulse_halves()
+    yield from (text for text in widest() if "99999999.999" in text)
 
 
 def formulas(sheet):
@@ -90,6 +101,8 @@ def test():
     counts = {kind: sum(name.startswith(kind) for name, *_ in sheets) for kind in MAKERS}
     tally.check(counts["prove"] >= 200, f"only {counts['prove']} proving jobs have a worksheet")
     least_of = {"first_trip": PAIRED, "prover_compressibility_line": 2, "compressibility_line": 1}
+    having = sum("0.001 pulse" in row for _, _, sheet, _ in sheets for row in sheet.rows)
+    tally.check(having >= IN_PARTS // 2 + 5, f"only {having} worksheets have thousandths of a pulse")
     for key, least in (BOILING | least_of).items():
         having = sum(key in sheet.places for _, _, sheet, _ in sheets)
         tally.check(having >= least, f"only {having} worksheets have a {key}")

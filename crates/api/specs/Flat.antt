@@ -9,9 +9,10 @@ use Rattle.refusals.specs.Told.{Told, done, refused}
 use Rattle.exact.specs.declared.Quotient.{Quotient}
 use Rattle.exact.specs.declared.Quotient.the-variants.{Value, ZeroDivisor, TooLarge}
 use Rattle.report.specs.declared.Report.{Report}
-use Rattle.run.specs.Record.{runSize}
+use Rattle.run.specs.Record.{sizeOf}
 use Rattle.run.specs.declared.Corrected.{Corrected}
 use Rattle.run.specs.declared.Figures.{Figures}
+use Rattle.run.specs.declared.Form.{Form}
 use Rattle.draw.specs.declared.FillFigures.{FillFigures}
 use Rattle.draw.specs.declared.BaseVolume.{BaseVolume}
 use Rattle.ticket.specs.declared.Volumes.{Volumes}
@@ -30,6 +31,7 @@ use Rattle.api.specs.declared.tickets.EndakuroVolumes.{EndakuroVolumes}
 use Rattle.api.specs.declared.readings.EndakuroLive.{EndakuroLive}
 use Rattle.api.specs.declared.panel.EndakuroPanel.{EndakuroPanel}
 use Rattle.api.specs.declared.lookups.EndakuroEntry.{EndakuroEntry}
+use Rattle.api.specs.declared.moves.EndakuroMoved.{EndakuroMoved}
 use Rattle.api.specs.declared.books.EndakuroDone.{EndakuroDone}
 use Rattle.api.specs.declared.books.EndakuroTaken.{EndakuroTaken}
 use Rattle.api.specs.declared.books.EndakuroCommons.{EndakuroCommons}
@@ -81,9 +83,9 @@ unfoldable pub flatReport : Told Report → EndakuroReport
 flatReport t = reportWith (numberIn t) (recordIn t) (valuesIn noReport t)
 
 -- 'the five accepted run records .. as a part of the lent records': five records from the place that was found; none on refusal
-abbrev pub partOf : Told ℕ → EndakuroPart
-partOf (done at) = record { start = runSize * at; length = 5 * runSize }
-partOf (refused number at) = record { start = 0; length = 0 }
+abbrev pub partOf : Form → Told ℕ → EndakuroPart
+partOf form (done at) = record { start = sizeOf form * at; length = 5 * sizeOf form }
+partOf form (refused number at) = record { start = 0; length = 0 }
 
 -- one run's figures
 abbrev pub noVolume : Corrected
@@ -187,6 +189,13 @@ entryWith number at e = record { number = number; at = at; temperature = e .temp
 
 unfoldable pub flatEntry : Told Entry → EndakuroEntry
 flatEntry t = entryWith (numberIn t) (recordIn t) (valuesIn noEntry t)
+
+-- how many records were moved
+abbrev pub movedWith : ℕ → ℕ → ℕ → EndakuroMoved
+movedWith number at count = record { number = number; at = at; count = count }
+
+unfoldable pub flatMoved : Told ℕ → EndakuroMoved
+flatMoved t = movedWith (numberIn t) (recordIn t) (valuesIn 0 t)
 
 -- a request or a withdrawal: nothing but the number and the record
 unfoldable pub flatDone : Told Unit → EndakuroDone

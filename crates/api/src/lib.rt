@@ -6,6 +6,7 @@ pub mod books;
 pub mod corrections;
 pub mod jobs;
 pub mod lookups;
+pub mod moves;
 pub mod panel;
 pub mod quotients;
 pub mod readings;

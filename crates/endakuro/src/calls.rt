@@ -16,10 +16,12 @@ use live::Reading;
 use live::panel::Panel;
 use lookup::Entry;
 use lookup::LookUp;
+use moving::Moved;
 use report::Answer;
 use report::Factors;
 use report::Report;
 use run::Figures;
+use run::Form;
 use run::Worked;
 use ticket::Measured;
 use ticket::Ticket;
@@ -77,30 +79,69 @@ fn say_job(answer: Answer, out: &mut [u8]) -> usize {
     }
 }
 
-fn prove_into(line: &[u8], records: &[u8], buffer: &mut [u8], out: &mut [u8]) -> usize {
+fn prove_into(form: Form, line: &[u8], records: &[u8], buffer: &mut [u8], out: &mut [u8]) -> usize {
     let prover = operands::prover_at(line, 2);
     let request = operands::u32_at(line, 1);
     let k = operands::u32_at(line, 8);
     let limit = operands::u16_at(line, 9);
     let at = say_job(
-        proving::prove(request, prover, k, limit, records, buffer),
+        proving::prove(request, prover, k, limit, form, records, buffer),
         out,
     );
     add_bytes(buffer, out, at)
 }
 
-fn answer_prove(line: &[u8], first: &mut [u8], second: &mut [u8], out: &mut [u8]) -> usize {
+fn answer_prove(
+    form: Form,
+    line: &[u8],
+    first: &mut [u8],
+    second: &mut [u8],
+    out: &mut [u8],
+) -> usize {
     let size = hex::read_bytes(words::word(line, 10), first);
     let count = hex::read_bytes(words::word(line, 11), second);
-    prove_into(line, &second[..count], &mut first[..size], out)
+    prove_into(form, line, &second[..count], &mut first[..size], out)
 }
 
-fn say_runs(line: &[u8], records: &[u8], out: &mut [u8]) -> usize {
+fn say_moved(moved: Moved, out: &mut [u8]) -> usize {
+    match moved {
+        Moved::Records(_) => answers::say_done(out),
+        Moved::Refused(refusal) => refuse(refusal, out),
+    }
+}
+
+fn move_into(form: Form, records: &[u8], buffer: &mut [u8], out: &mut [u8]) -> usize {
+    match form {
+        Form::Short => {
+            let at = say_moved(moving::forward(records, buffer), out);
+            add_bytes(buffer, out, at)
+        }
+        Form::Long => {
+            let at = say_moved(moving::back(records, buffer), out);
+            add_bytes(buffer, out, at)
+        }
+    }
+}
+
+// From the form that is lent to the other.
+fn answer_move(
+    form: Form,
+    line: &[u8],
+    first: &mut [u8],
+    second: &mut [u8],
+    out: &mut [u8],
+) -> usize {
+    let size = hex::read_bytes(words::word(line, 1), first);
+    let count = hex::read_bytes(words::word(line, 2), second);
+    move_into(form, &second[..count], &mut first[..size], out)
+}
+
+fn say_runs(form: Form, line: &[u8], records: &[u8], out: &mut [u8]) -> usize {
     let prover = operands::prover_at(line, 1);
     let k = operands::u32_at(line, 7);
     let limit = operands::u16_at(line, 8);
     let at = answers::say_done(out);
-    add_bytes(proving::accept(prover, k, limit, records), out, at)
+    add_bytes(proving::accept(prover, k, limit, form, records), out, at)
 }
 
 fn say_figures(figures: Figures, out: &mut [u8]) -> usize {
@@ -123,9 +164,9 @@ fn say_figures(figures: Figures, out: &mut [u8]) -> usize {
     )
 }
 
-fn say_run(line: &[u8], bytes: &[u8], out: &mut [u8]) -> usize {
+fn say_run(form: Form, line: &[u8], bytes: &[u8], out: &mut [u8]) -> usize {
     let prover = operands::prover_at(line, 1);
-    let worked = run::show(prover, operands::u32_at(line, 7), bytes);
+    let worked = run::show(prover, operands::u32_at(line, 7), form, bytes);
     match worked {
         Worked::Figures(figures) => say_figures(figures, out),
         Worked::Refused(refusal) => refuse(refusal, out),
@@ -319,14 +360,16 @@ fn look_up(line: &[u8], table: &[u8], out: &mut [u8]) -> usize {
 // The entries whose last operand is lent records, or one.
 fn answer_records(entry: usize, line: &[u8], records: &[u8], out: &mut [u8]) -> usize {
     match entry {
-        10 => say_runs(line, records, out),
-        11 => say_run(line, records, out),
-        12 => say_read(records, out),
-        13 => say_draw(Profile::Unidirectional, line, records, out),
-        14 => say_fill(line, records, out),
-        15 => list_volumes(Profile::Unidirectional, line, records, out),
-        16 => say_draw(Profile::Bidirectional, line, records, out),
-        17 => list_volumes(Profile::Bidirectional, line, records, out),
+        13 => say_runs(Form::Short, line, records, out),
+        14 => say_runs(Form::Long, line, records, out),
+        15 => say_run(Form::Short, line, records, out),
+        16 => say_run(Form::Long, line, records, out),
+        17 => say_read(records, out),
+        18 => say_draw(Profile::Unidirectional, line, records, out),
+        19 => say_fill(line, records, out),
+        20 => list_volumes(Profile::Unidirectional, line, records, out),
+        21 => say_draw(Profile::Bidirectional, line, records, out),
+        22 => list_volumes(Profile::Bidirectional, line, records, out),
         _ => look_up(line, records, out),
     }
 }
@@ -366,15 +409,15 @@ fn answer_spread(line: &[u8], out: &mut [u8]) -> usize {
 
 fn answer_numbers(entry: usize, line: &[u8], out: &mut [u8]) -> usize {
     match entry {
-        19 => answer_cts(line, out),
-        20 => answer_cps(line, out),
-        21 => answer_cpl(line, out),
-        22 => answer_ticket(line, out),
-        23 => answer_live(line, out),
-        24 => answer_spread(line, out),
-        25 => answer_panel_temperature(line, out),
-        26 => answer_panel_pressure(line, out),
-        27 => answer_channels(line, out),
+        24 => answer_cts(line, out),
+        25 => answer_cps(line, out),
+        26 => answer_cpl(line, out),
+        27 => answer_ticket(line, out),
+        28 => answer_live(line, out),
+        29 => answer_spread(line, out),
+        30 => answer_panel_temperature(line, out),
+        31 => answer_panel_pressure(line, out),
+        32 => answer_channels(line, out),
         _ => answers::say_bad(out),
     }
 }
@@ -388,9 +431,12 @@ pub(crate) fn answer(
     out: &mut [u8],
 ) -> usize {
     match entry {
-        8 => answer_prove(line, first, second, out),
-        9 => answer_write(line, first, out),
-        10..=18 => answer_lent(entry, line, first, out),
+        8 => answer_prove(Form::Short, line, first, second, out),
+        9 => answer_prove(Form::Long, line, first, second, out),
+        10 => answer_move(Form::Short, line, first, second, out),
+        11 => answer_move(Form::Long, line, first, second, out),
+        12 => answer_write(line, first, out),
+        13..=23 => answer_lent(entry, line, first, out),
         _ => answer_numbers(entry, line, out),
     }
 }

@@ -81,24 +81,24 @@ fn serve(chunk: &mut [u8], line: &mut [u8], first: &mut [u8], second: &mut [u8],
 }
 
 // Room for the longest line.
-fn line_room() -> [u8; 524288]
+fn line_room() -> [u8; 1048576]
+    ensures { λ r. ⌜ 1048576 ≡ length r ⌝ }
+{
+    [0; 1048576]
+}
+
+// Room for the bytes that a line can spell.
+fn bytes_room() -> [u8; 524288]
     ensures { λ r. ⌜ 524288 ≡ length r ⌝ }
 {
     [0; 524288]
 }
 
-// Room for the bytes that a line can spell.
-fn bytes_room() -> [u8; 262144]
-    ensures { λ r. ⌜ 262144 ≡ length r ⌝ }
-{
-    [0; 262144]
-}
-
 // Room for the longest answer: a line's bytes again, behind other values.
-fn answer_room() -> [u8; 525312]
-    ensures { λ r. ⌜ 525312 ≡ length r ⌝ }
+fn answer_room() -> [u8; 1049600]
+    ensures { λ r. ⌜ 1049600 ≡ length r ⌝ }
 {
-    [0; 525312]
+    [0; 1049600]
 }
 
 fn main() {

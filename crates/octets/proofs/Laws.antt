@@ -3,14 +3,14 @@ use mathlib.Core.Path.{_≡_, refl, sym, _∙_, ap}
 use mathlib.Core.Bool.{true}
 use mathlib.Core.List.{List, [], _∷_, _++_, append-assoc, append-nil}
 use Prim.Native.Nat.{ℕ, zero, suc, _+_, _*_, _-_, _/_, _%_, _^_, _≤_, _<_}
-use native.Mathlib.Nat.{add-assoc, pow-succ'}
+use native.Mathlib.Nat.{add-assoc, add-zero, pow-succ'}
 use native.Mathlib.Numerals.{add-one}
 use native.Mathlib.Omega.{arith}
 use borrow.Author.Tests.{lt-ltb, le-ltb, le-leb, lt-leb, eqb-true, eq-eqb}
 use lib.IntN.{pos, negsuc}
 use lib.ListN.{length, getD, take, drop, replicate, length-append, length-drop, length-replicate, getD-replicate, take-append-drop, drop-of-length-le, List·getD-eq-default}
-use lib.Seq.{getD-append-seam, append-snoc, drop-cons, length-take-le, getD-take, getD-drop, ext-getD}
-use Rattle.octets.specs.Octets.{numberAt, byteAt, wordAt, longAt, signedOf, isZeroAt, zeroBetween, bytesOf, writtenAt}
+use lib.Seq.{getD-append-seam, append-snoc, drop-cons, drop-drop, take-at, drop-at, length-take-le, getD-take, getD-drop, ext-getD}
+use Rattle.octets.specs.Octets.{numberAt, byteAt, wordAt, longAt, quadAt, signedOf, isZeroAt, zeroBetween, bytesOf, writtenAt}
 use Rattle.octets.proofs.FirstToLast.{tests, empty, nowhere}
 
 -- a list of bytes
@@ -44,6 +44,25 @@ word-is s at = omega arith
 pub long-is : (s : List ℕ) (at : ℕ) → longAt s at ≡ wordAt s at + 65536 * wordAt s (at + 2)
 unfolding wordAt longAt numberAt
 long-is s at = rw (add-assoc at 1 1) (omega arith)
+
+-- eight bytes are two fours
+pub quad-is : (s : List ℕ) (at : ℕ) → quadAt s at ≡ longAt s at + 4294967296 * longAt s (at + 4)
+unfolding quadAt longAt numberAt
+quad-is s at =
+    let four : at + 1 + 1 + 1 + 1 ≡ at + 4 = omega arith in
+    rw four (omega arith)
+
+-- the same bytes make the same number
+pub number-same : (n : ℕ) (s t : List ℕ) (a b : ℕ) → ((j : ℕ) → j < n → getD s (a + j) 0 ≡ getD t (b + j) 0) → numberAt n s a ≡ numberAt n t b
+unfolding numberAt
+number-same zero s t a b each = refl
+number-same (suc n) s t a b each =
+    let first : getD s a 0 ≡ getD t b 0 = simp add-zero at (each 0 (omega arith)) in
+    let rest : numberAt n s (a + 1) ≡ numberAt n t (b + 1) = number-same n s t (a + 1) (b + 1) (λ j h. (λ i. getD s (over a j i) 0) ∙ each (1 + j) (omega arith) ∙ sym (λ i. getD t (over b j i) 0)) in
+    λ i. first i + 256 * rest i
+  where
+    over : (x j : ℕ) → x + 1 + j ≡ x + (1 + j)
+    over x j = add-assoc x 1 j
 
 -- reading what was written returns it
 pub read-written : (a t : List ℕ) (n x : ℕ) → x < 256 ^ n → numberAt n (a ++ bytesOf n x ++ t) (length a) ≡ x
@@ -131,3 +150,31 @@ pub written-whole : (to bytes : List ℕ) → length bytes ≡ length to → wri
 written-whole to bytes h =
     let past : length to ≤ 0 + length bytes = omega arith in
     written-fits to 0 bytes (omega arith) ∙ ap (λ (l : List ℕ). bytes ++ l) (drop-of-length-le to past) ∙ append-nil bytes
+
+-- bytes written behind bytes are both written at once
+pub written-both : (to : List ℕ) (at : ℕ) (first next : List ℕ) → at + length first + length next ≤ length to
+    → writtenAt (writtenAt to at first) (at + length first) next ≡ writtenAt to at (first ++ next)
+written-both to at first next room =
+    let front : List ℕ = take at to ++ first in
+    let end : ℕ = at + length first in
+    let whole : List ℕ = front ++ drop end to in
+    let fronted : length front ≡ end = length-append (take at to) first ∙ ap (λ (n : ℕ). n + length first) (length-take-le at to (omega arith)) in
+    let both : end + length next ≡ at + length (first ++ next) = add-assoc at (length first) (length next) ∙ sym (ap (λ (n : ℕ). at + n) (length-append first next)) in
+    let long : length whole ≡ length to = length-append front (drop end to) ∙ (λ i. fronted i + length-drop end to i) ∙ omega arith in
+    let rest : drop (end + length next) whole ≡ drop (end + length next) to = sym (drop-drop (length next) end whole) ∙ ap (drop (length next)) (drop-at front (drop end to) end fronted) ∙ drop-drop (length next) end to in
+    ap (λ (l : List ℕ). writtenAt l end next) (written-fits to at first (omega arith))
+    ∙ written-fits whole end next (omega (arith, long))
+    ∙ (λ i. take-at front (drop end to) end fronted i ++ next ++ rest i)
+    ∙ (λ i. append-assoc (take at to) first next i ++ drop (both i) to)
+    ∙ sym (written-fits to at (first ++ next) (omega (arith, both)))
+
+-- no byte is added or lost by writing bytes that fit
+pub written-length : (to : List ℕ) (at : ℕ) (bytes : List ℕ) → at + length bytes ≤ length to → length (writtenAt to at bytes) ≡ length to
+written-length to at bytes room =
+    ap length (written-fits to at bytes room) ∙ length-append (take at to ++ bytes) (drop (at + length bytes) to)
+    ∙ (λ i. (length-append (take at to) bytes ∙ ap (λ (n : ℕ). n + length bytes) (length-take-le at to (omega arith))) i + length-drop (at + length bytes) to i)
+    ∙ omega arith
+
+-- nothing written leaves all as it was
+pub written-none : (to : List ℕ) → writtenAt to 0 [] ≡ to
+written-none to = written-fits to 0 [] (omega arith)

@@ -1,2 +1,3 @@
 pub mod FirstToLast
 pub mod Laws
+pub mod Joined

@@ -24,6 +24,10 @@ wordAt s at = numberAt 2 s at
 unfoldable pub longAt : List ℕ → ℕ → ℕ
 longAt s at = numberAt 4 s at
 
+-- eight bytes
+unfoldable pub quadAt : List ℕ → ℕ → ℕ
+quadAt s at = numberAt 8 s at
+
 -- a word read as signed: below 32,768 as it stands, from there on 65,536 less
 unfoldable pub signedOf : ℕ → ℤ
 signedOf x = cond (ltb x 32768) (pos x) (negℤ (pos (65536 - x)))

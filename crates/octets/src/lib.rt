@@ -1,7 +1,7 @@
 // Numbers in bytes, little-endian (01, 'Records'). Every read is total: a byte past the end reads as 0,
 // so that a decoder above needs no test of its own.
 ghost use mathlib.Core.Path.{_≡_};
-ghost use Rattle.octets.specs.Octets.{byteAt, wordAt, longAt, signedAt, zeroBetween, bytesOf, writtenAt};
+ghost use Rattle.octets.specs.Octets.{byteAt, wordAt, longAt, quadAt, signedAt, zeroBetween, bytesOf, writtenAt};
 
 pub fn byte_at(s: &[u8], at: usize) -> u8
     ensures { λ r. ⌜ r ≡ byteAt (now (s .entry)) at ⌝ }
@@ -31,6 +31,18 @@ pub fn long_at(s: &[u8], at: usize) -> u32
     let low = word_at(s, at) as u32;
     let high = word_at(s, at + 2) as u32;
     low + 65536 * high
+}
+
+pub fn quad_at(s: &[u8], at: usize) -> u64
+    ensures { λ r. ⌜ r ≡ quadAt (now (s .entry)) at ⌝ }
+{
+    // Past the end at + 4 might not fit.
+    if s.len() <= at {
+        return 0;
+    }
+    let low = long_at(s, at) as u64;
+    let high = long_at(s, at + 4) as u64;
+    low + 4294967296 * high
 }
 
 pub fn signed_at(s: &[u8], at: usize) -> i16
@@ -79,6 +91,29 @@ pub fn long_bytes(x: u32) -> [u8; 4]
     let third = x / 256 / 256 % 256;
     let fourth = x / 256 / 256 / 256 % 256;
     [first as u8, second as u8, third as u8, fourth as u8]
+}
+
+pub fn quad_bytes(x: u64) -> [u8; 8]
+    ensures { λ r. ⌜ r ≡ bytesOf 8 x ⌝ }
+{
+    let first = x % 256;
+    let second = x / 256 % 256;
+    let third = x / 256 / 256 % 256;
+    let fourth = x / 256 / 256 / 256 % 256;
+    let fifth = x / 256 / 256 / 256 / 256 % 256;
+    let sixth = x / 256 / 256 / 256 / 256 / 256 % 256;
+    let seventh = x / 256 / 256 / 256 / 256 / 256 / 256 % 256;
+    let eighth = x / 256 / 256 / 256 / 256 / 256 / 256 / 256 % 256;
+    [
+        first as u8,
+        second as u8,
+        third as u8,
+        fourth as u8,
+        fifth as u8,
+        sixth as u8,
+        seventh as u8,
+        eighth as u8,
+    ]
 }
 
 // Writes the bytes over `to` from `at` on, all of them, or none where they do not fit.

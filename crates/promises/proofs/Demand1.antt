@@ -3,7 +3,7 @@
 -- A refusal writes nothing into a lent buffer and hands the book of waiting requests back unchanged.'
 -- Of the meanings that the contracts cite: `Ends numbers first last t` says that t is a result, or a refusal whose number is on the
 -- entry's own list `numbers` and whose record is 0, or for a starred number one of the records from `first` to `last`.
-use mathlib.Core.Path.{_≡_, refl, ap}
+use mathlib.Core.Path.{_≡_, refl, sym, ap, subst}
 use mathlib.Core.Bool.{Bool, true, not, _&&_}
 use mathlib.Core.List.{List, [], _∷_}
 use mathlib.Core.Option.{Option, none, some}
@@ -13,8 +13,8 @@ use lib.Dec.{leb, ltb, eqb}
 use lib.IntN.{ℤ}
 use lib.Ieee.{Float}
 use lib.ListN.{length}
-use Rattle.refusals.specs.Told.{Told, done, refused, leftBy}
-use Rattle.ranges.specs.Table.{temperatureOk, pressureOk, kFactorOk, limitOk, volumeOk, runFactorOk, fillsOk, entriesOk}
+use Rattle.refusals.specs.Told.{Told, done, refused, demandAt, leftBy}
+use Rattle.ranges.specs.Table.{temperatureOk, pressureOk, kFactorOk, limitOk, volumeOk, runFactorOk, fillsOk, entriesOk, movedOk}
 use Rattle.octets.specs.Records.{recordsIn, areRecords}
 use Rattle.ranges.specs.Within.{within}
 use Rattle.ranges.proofs.Laws.{within-true}
@@ -26,16 +26,20 @@ use Rattle.factors.specs.declared.Liquid.{Liquid}
 use Rattle.factors.specs.declared.Metal.{Metal}
 use Rattle.factors.specs.declared.Pipe.{Pipe}
 use Rattle.factors.specs.declared.Prover.{Prover}
-use Rattle.run.specs.Record.{runSize, runAt, runOk, unnamedOk}
+use Rattle.run.specs.Record.{sizeOf, runAt, runOk, unnamedOk}
+use Rattle.run.specs.declared.Form.{Form}
+use Rattle.run.specs.declared.Form.the-variants.{Short, Long}
+use Rattle.moving.specs.Judging.{bufferOk, isWhole, moveFault, moveFaults, moveOf}
+use Rattle.moving.proofs.Laws.{short-whole}
 use Rattle.run.specs.Figures.{figuresOf}
-use Rattle.run.specs.Answers.{givenFault, figuresFault, figuresTold, workedOf, shownOf}
+use Rattle.run.specs.Answers.{recordFault, givenFault, figuresFault, figuresTold, workedOf, shownOf}
 use Rattle.run.specs.declared.Run.{Run}
 use Rattle.run.specs.declared.Figures.{Figures}
 use Rattle.group.specs.Repeatability.{firstGroup}
 use Rattle.report.specs.Record.{listOf}
 use Rattle.report.specs.Judged.{jobOk, isReport, writeOf, readOf}
 use Rattle.report.specs.declared.Factors.{Factors}
-use Rattle.proving.specs.Judging.{runsIn, sizeOk, settingsFault, recordFault, runFault, inputFault}
+use Rattle.proving.specs.Judging.{runsIn, sizeOk, settingsFault, lentFault, runFault, inputFault}
 use Rattle.proving.specs.Job.{firstFive, reportAt, foundOf, jobOf, acceptedBy, acceptedOf}
 use Rattle.draw.specs.Fill.{fillAt, fillOk, unnamedOk as fillUnnamedOk, ruleOk}
 use Rattle.draw.specs.Passes.{passCount}
@@ -65,7 +69,7 @@ use Rattle.book.specs.Calls.{callFault, hasRoom, entryFault, requestFault, requ
 use Rattle.book.specs.declared.Book.{Book}
 use Rattle.book.specs.declared.Figures.{Figures as BookFigures}
 use lib.Ieee.Scale.{finite}
-use Rattle.promises.specs.Numbers.{settingNumbers, liquidNumbers, jobNumbers, provingNumbers, recordNumbers, runNumbers, drawNumbers, passesNumbers, fillNumbers, ticketNumbers, liveNumbers, channelNumbers, panelNumbers, lookUpNumbers, requestNumbers, withdrawalNumbers, takeNumbers, agreementNumbers, commonsNumbers, readNumbers, writeNumbers}
+use Rattle.promises.specs.Numbers.{settingNumbers, liquidNumbers, jobNumbers, provingNumbers, recordNumbers, runNumbers, forwardNumbers, backNumbers, drawNumbers, passesNumbers, fillNumbers, ticketNumbers, liveNumbers, channelNumbers, panelNumbers, lookUpNumbers, requestNumbers, withdrawalNumbers, takeNumbers, agreementNumbers, commonsNumbers, readNumbers, writeNumbers}
 use Rattle.promises.specs.Ending.{markedOf, recordOk, refusalOk, Ends}
 use Rattle.promises.proofs.Endings.{Finds, by-demand, by-demandAt, by-orElse, by-scan, by-unless, by-judged, by-nine, as-told}
 
@@ -100,14 +104,14 @@ worked-ends prover k run at =
     let same : within at at at ≡ true = within-true at at at (omega arith) (omega arith) in
     by-unless (given-finds prover k run at refl refl same) (by-judged _ (own-figures (figuresOf prover k run) at same same))
 
-pub shown-ends : (prover : Prover) (k : ℕ) (s : List ℕ) → Ends recordNumbers 1 1 (shownOf prover k s)
+pub shown-ends : (prover : Prover) (k : ℕ) (form : Form) (s : List ℕ) → Ends recordNumbers 1 1 (shownOf prover k form s)
 unfolding shownOf figuresTold isOneOf markedOf recordOk refusalOk
-shown-ends prover k s =
+shown-ends prover k form s =
     by-unless
-    (by-orElse (by-demand (eqb (length s) runSize) 1 refl)
-    (by-orElse (given-finds prover k (runAt runSize s 0) 1 refl refl refl)
-    (by-demandAt (unnamedOk runSize s 0) 2 1 refl)))
-    (by-judged _ (own-figures (figuresOf prover k (runAt runSize s 0)) 1 refl refl))
+    (by-orElse (by-demand (eqb (length s) (sizeOf form)) 1 refl)
+    (by-orElse (given-finds prover k (runAt form s 0) 1 refl refl refl)
+    (by-demandAt (unnamedOk form s 0) 2 1 refl)))
+    (by-judged _ (own-figures (figuresOf prover k (runAt form s 0)) 1 refl refl))
 
 -- ---- a proving: 'For a job that writes a report: 14, request number zero (22), then 1, 3, 4; then records first to last, each with 5, 2;
 -- then 7 and 8 run by run; then 9', with the record from 1 to the count of records
@@ -120,38 +124,38 @@ abbrev Carried : List ℕ → ℕ → ℕ → Type 0
 Carried numbers n number = (i : ℕ) → i < n → refusalOk numbers 1 n number (i + 1) ≡ true
 
 -- what a proving finds, with or without a buffer and a request number
-module _ {numbers : List ℕ} (prover : Prover) (k limit : ℕ) (s : List ℕ) where
-  input-finds : Given numbers (runsIn s) 1 → Given numbers (runsIn s) 3 → Given numbers (runsIn s) 4 → Carried numbers (runsIn s) 5 → Carried numbers (runsIn s) 2 → Carried numbers (runsIn s) 7
-      → Carried numbers (runsIn s) 8 → Finds numbers 1 (runsIn s) (inputFault prover k limit s)
+module _ {numbers : List ℕ} (prover : Prover) (k limit : ℕ) (form : Form) (s : List ℕ) where
+  input-finds : Given numbers (runsIn form s) 1 → Given numbers (runsIn form s) 3 → Given numbers (runsIn form s) 4 → Carried numbers (runsIn form s) 5 → Carried numbers (runsIn form s) 2 → Carried numbers (runsIn form s) 7
+      → Carried numbers (runsIn form s) 8 → Finds numbers 1 (runsIn form s) (inputFault prover k limit form s)
   unfolding inputFault settingsFault recordFault runFault
   input-finds one three four five two seven eight =
-      by-orElse (by-orElse (by-demand (sizeOk (length s)) 1 one) (by-orElse (by-demand (proverOk prover) 3 three) (by-orElse (by-demand (kFactorOk k) 4 four) (by-demand (limitOk limit) 4 four))))
+      by-orElse (by-orElse (by-demand (sizeOk form (length s)) 1 one) (by-orElse (by-demand (proverOk prover) 3 three) (by-orElse (by-demand (kFactorOk k) 4 four) (by-demand (limitOk limit) 4 four))))
       (by-orElse
-      (by-scan (recordFault s) (runsIn s) 0 (λ i _ h. let b : i < runsIn s = omega arith in by-orElse (by-demandAt (runOk (runAt runSize s i)) 5 (i + 1) (five i b)) (by-demandAt (unnamedOk runSize s i) 2 (i + 1) (two i b))))
-      (by-scan (runFault prover k s) (runsIn s) 0 (λ i _ h. let b : i < runsIn s = omega arith in own-figures (figuresOf prover k (runAt runSize s i)) (i + 1) (seven i b) (eight i b))))
+      (by-scan (lentFault form s) (runsIn form s) 0 (λ i _ h. let b : i < runsIn form s = omega arith in by-orElse (by-demandAt (runOk (runAt form s i)) 5 (i + 1) (five i b)) (by-demandAt (unnamedOk form s i) 2 (i + 1) (two i b))))
+      (by-scan (runFault prover k form s) (runsIn form s) 0 (λ i _ h. let b : i < runsIn form s = omega arith in own-figures (figuresOf prover k (runAt form s i)) (i + 1) (seven i b) (eight i b))))
 
 -- a record of n, counted from 1
 of-records : (n i : ℕ) → i < n → within 1 n (i + 1) ≡ true
 of-records n i h = within-true 1 n (i + 1) (omega arith) (omega arith)
 
-pub job-ends : (request : ℕ) (prover : Prover) (k limit : ℕ) (s : List ℕ) (size : ℕ) → Ends jobNumbers 1 (runsIn s) (jobOf request prover k limit s size)
+pub job-ends : (request : ℕ) (prover : Prover) (k limit : ℕ) (form : Form) (s : List ℕ) (size : ℕ) → Ends jobNumbers 1 (runsIn form s) (jobOf request prover k limit form s size)
 unfolding jobOf isOneOf markedOf recordOk refusalOk
-job-ends request prover k limit s size =
-    let of = of-records (runsIn s) in
+job-ends request prover k limit form s size =
+    let of = of-records (runsIn form s) in
     by-unless (by-orElse (by-demand (eqb size 32) 14 refl) (by-demand (not (eqb request 0)) 22 refl))
-    (by-unless (input-finds prover k limit s refl refl refl of of of of) (by-nine (firstFive prover k limit s) (reportAt request prover k s) refl))
+    (by-unless (input-finds prover k limit form s refl refl refl of of of of) (by-nine (firstFive prover k limit form s) (reportAt request prover k form s) refl))
 
 -- the entry that hands run records back, without buffer or request number
-pub found-ends : (prover : Prover) (k limit : ℕ) (s : List ℕ) → Ends provingNumbers 1 (runsIn s) (foundOf prover k limit s)
+pub found-ends : (prover : Prover) (k limit : ℕ) (form : Form) (s : List ℕ) → Ends provingNumbers 1 (runsIn form s) (foundOf prover k limit form s)
 unfolding foundOf isOneOf markedOf recordOk refusalOk
-found-ends prover k limit s =
-    let of = of-records (runsIn s) in
-    by-unless (input-finds prover k limit s refl refl refl of of of of) (by-nine (firstFive prover k limit s) (λ at. at) refl)
+found-ends prover k limit form s =
+    let of = of-records (runsIn form s) in
+    by-unless (input-finds prover k limit form s refl refl refl of of of of) (by-nine (firstFive prover k limit form s) (λ at. at) refl)
 
 -- '(The entry that hands run records back hands back none when it refuses, and no number.)'
-pub none-when-refused : (prover : Prover) (k limit : ℕ) (s : List ℕ) {number at : ℕ} → foundOf prover k limit s ≡ refused number at → acceptedOf prover k limit s ≡ []
+pub none-when-refused : (prover : Prover) (k limit : ℕ) (form : Form) (s : List ℕ) {number at : ℕ} → foundOf prover k limit form s ≡ refused number at → acceptedOf prover k limit form s ≡ []
 unfolding acceptedOf
-none-when-refused prover k limit s is = ap (λ (t : Told ℕ). acceptedBy runSize t s) is
+none-when-refused prover k limit form s is = ap (λ (t : Told ℕ). acceptedBy (sizeOf form) t s) is
 
 -- ---- the report: 'A report read: 14, 15. The report writer alone ..: 14, 22, 15.'
 
@@ -244,6 +248,31 @@ panel-temperature-ends tenths = by-judged _ (by-demand (temperatureOk tenths) 13
 pub panel-pressure-ends : (psi : ℕ) → Ends panelNumbers 0 0 (panelPressureOf psi)
 unfolding panelPressureOf isOneOf markedOf recordOk refusalOk
 panel-pressure-ends psi = by-judged _ (by-demand (pressureOk psi) 13 refl)
+
+-- ---- records moved: '14, first of all', 1, and then record by record 5, 2 and, on the way back, 36
+
+module _ {numbers : List ℕ} (form : Form) (s : List ℕ) (size : ℕ) where
+  moves-find : Given numbers (recordsIn (sizeOf form) s) 14 → Given numbers (recordsIn (sizeOf form) s) 1 → Carried numbers (recordsIn (sizeOf form) s) 5 → Carried numbers (recordsIn (sizeOf form) s) 2
+      → ((i : ℕ) → i < recordsIn (sizeOf form) s → Finds numbers 1 (recordsIn (sizeOf form) s) (demandAt (isWhole (runAt form s i .pulses)) 36 (i + 1))) → Finds numbers 1 (recordsIn (sizeOf form) s) (moveFaults form s size)
+  unfolding moveFaults moveFault recordFault
+  moves-find fourteen one five two whole =
+      by-orElse (by-demand (bufferOk form (length s) size) 14 fourteen)
+      (by-orElse (by-demand (areRecords movedOk (sizeOf form) (length s)) 1 one)
+      (by-scan (moveFault form s) (recordsIn (sizeOf form) s) 0 (λ i _ h.
+      let b : i < recordsIn (sizeOf form) s = omega arith in
+      by-orElse (by-orElse (by-demandAt (runOk (runAt form s i)) 5 (i + 1) (five i b)) (by-demandAt (unnamedOk form s i) 2 (i + 1) (two i b))) (whole i b))))
+
+pub forward-ends : (s : List ℕ) (size : ℕ) → Ends forwardNumbers 1 (recordsIn (sizeOf Short) s) (moveOf Short s size)
+unfolding moveOf isOneOf markedOf recordOk refusalOk
+forward-ends s size =
+    let of = of-records (recordsIn (sizeOf Short) s) in
+    by-judged _ (moves-find Short s size refl refl of of (λ i h. subst (λ (b : Bool). Finds forwardNumbers 1 (recordsIn (sizeOf Short) s) (demandAt b 36 (i + 1))) (sym (short-whole s i)) (record { number = tt })))
+
+pub back-ends : (s : List ℕ) (size : ℕ) → Ends backNumbers 1 (recordsIn (sizeOf Long) s) (moveOf Long s size)
+unfolding moveOf isOneOf markedOf recordOk refusalOk
+back-ends s size =
+    let of = of-records (recordsIn (sizeOf Long) s) in
+    by-judged _ (moves-find Long s size refl refl of of (λ i h. by-demandAt (isWhole (runAt Long s i .pulses)) 36 (i + 1) (of i h)))
 
 -- ---- a look-up: 1, the records with 32, 13, 33
 

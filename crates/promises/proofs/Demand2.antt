@@ -18,7 +18,8 @@ use Rattle.group.proofs.Groups.{qualifies-repeats, repeats-qualifies}
 use Rattle.report.specs.Record.{listOf}
 use Rattle.report.specs.Judged.{reportOf}
 use Rattle.report.specs.declared.Report.{Report}
-use Rattle.run.specs.Record.{runSize}
+use Rattle.run.specs.Record.{sizeOf}
+use Rattle.run.specs.declared.Form.{Form}
 use Rattle.proving.specs.Judging.{inputFault}
 use Rattle.proving.specs.Job.{firstFive, reportAt, jobOf, foundOf, acceptedOf}
 use Rattle.proving.proofs.Laws.{Reached, reached}
@@ -54,47 +55,48 @@ module _ (f : ℕ → ℕ) (limit n at : ℕ) where
       (λ i j m hi hj hm. let said : (f (at + i) - f (at + j)) * 10000 ≤ limit * f (at + m) = each i j m (omega arith) (omega arith) (omega arith) in
       rw (listed-value f n at i (omega arith), listed-value f n at j (omega arith), listed-value f n at m (omega arith)) said)
 
-module _ (prover : Prover) (k limit : ℕ) (s : List ℕ) where
+module _ (prover : Prover) (k limit : ℕ) (form : Form) (s : List ℕ) where
   module _ (request size : ℕ) where
     -- 'A job is accepted exactly when ..': only then,
-    pub accepted-only-when : {r : Report} → jobOf request prover k limit s size ≡ done r → Asked request size × Acceptable prover k limit s
-    accepted-only-when = job-tells prover k s limit request size .accepted
+    pub accepted-only-when : {r : Report} → jobOf request prover k limit form s size ≡ done r → Asked request size × Acceptable prover k limit form s
+    accepted-only-when = job-tells prover k form s limit request size .accepted
 
     -- and always then
-    pub accepted-when : Asked request size → Acceptable prover k limit s → (r : Report) × (jobOf request prover k limit s size ≡ done r)
-    accepted-when asked ok = job-tells prover k s limit request size .gives (asked, ok)
+    pub accepted-when : Asked request size → Acceptable prover k limit form s → (r : Report) × (jobOf request prover k limit form s size ≡ done r)
+    accepted-when asked ok = job-tells prover k form s limit request size .gives (asked, ok)
 
     -- a job that is done found its five
-    pub five-found : {r : Report} → jobOf request prover k limit s size ≡ done r → Reached (inputFault prover k limit s) (firstFive prover k limit s) (reportAt request prover k s) r
+    pub five-found : {r : Report} → jobOf request prover k limit form s size ≡ done r → Reached (inputFault prover k limit form s) (firstFive prover k limit form s) (reportAt request prover k form s) r
     unfolding jobOf
-    five-found is = reached (inputFault prover k limit s) (firstFive prover k limit s) (reportAt request prover k s) (unless-done (orElse (demand (eqb size 32) 14) (demand (not (eqb request 0)) 22)) _ is .1)
+    five-found is = reached (inputFault prover k limit form s) (firstFive prover k limit form s) (reportAt request prover k form s) (unless-done (orElse (demand (eqb size 32) 14) (demand (not (eqb request 0)) 22)) _ is .1)
 
     -- 'The first such group is the one used.' Its mean is the job's factor.
-    pub first-is-used : {r : Report} → jobOf request prover k limit s size ≡ done r → Used request prover k limit s r
+    pub first-is-used : {r : Report} → jobOf request prover k limit form s size ≡ done r → Used request prover k limit form s r
     unfolding reportAt reportOf
     first-is-used {r} is =
         let c = five-found is in
-        let five = first-five-meet prover k s limit (c .place) (c .first) in
-        let report : r ≡ reportAt request prover k s (c .place) = sym (c .gives) in
+        let five = first-five-meet prover k form s limit (c .place) (c .first) in
+        let report : r ≡ reportAt request prover k form s (c .place) = sym (c .gives) in
         record {
           place = c .place;
           five = five;
-          none-before = λ j h meets. apart (sym (meets .meet) ∙ least-five prover k s limit (c .place) (c .first) .earlier j h);
+          none-before = λ j h meets. apart (sym (meets .meet) ∙ least-five prover k form s limit (c .place) (c .first) .earlier j h);
           number = ap (λ (q : Report). q .number) report;
           runs = ap (λ (q : Report). q .runs) report;
           first = ap (λ (q : Report). q .first) report;
-          factors = ap (λ (q : Report). listOf (q .factors)) report ∙ five-listed prover k s (c .place) (five .room);
-          factor = ap (λ (q : Report). q .factor) report ∙ ap meanOf (five-listed prover k s (c .place) (five .room));
+          factors = ap (λ (q : Report). listOf (q .factors)) report ∙ five-listed prover k form s (c .place) (five .room);
+          factor = ap (λ (q : Report). q .factor) report ∙ ap meanOf (five-listed prover k form s (c .place) (five .room));
         }
 
   -- 01: 'the five accepted run records are handed back as a part of the lent records; a refused job hands back the empty part and no number.
   -- The number is the one that the job itself, with a 32-byte buffer and a non-zero request number, gives for the same input.'
   module _ (request : ℕ) (asked : request ≡ 0 → ⊥) where
-    pub accepted-runs : {r : Report} → jobOf request prover k limit s 32 ≡ done r → (acceptedOf prover k limit s ≡ take (5 * runSize) (drop (runSize * (r .first - 1)) s)) × (length (acceptedOf prover k limit s) ≡ 5 * runSize)
-    accepted-runs is = (begins-at-first-run request prover k limit s asked is, whole-when-done request prover k limit s asked is)
+    pub accepted-runs : {r : Report} → jobOf request prover k limit form s 32 ≡ done r
+        → (acceptedOf prover k limit form s ≡ take (5 * sizeOf form) (drop (sizeOf form * (r .first - 1)) s)) × (length (acceptedOf prover k limit form s) ≡ 5 * sizeOf form)
+    accepted-runs is = (begins-at-first-run request prover k limit form s asked is, whole-when-done request prover k limit form s asked is)
 
-    pub no-accepted-runs : {number at : ℕ} → jobOf request prover k limit s 32 ≡ refused number at → (acceptedOf prover k limit s ≡ []) × (foundOf prover k limit s ≡ refused number at)
-    no-accepted-runs is = (empty-when-refused request prover k limit s asked is, same-number request prover k limit s asked is)
+    pub no-accepted-runs : {number at : ℕ} → jobOf request prover k limit form s 32 ≡ refused number at → (acceptedOf prover k limit form s ≡ []) × (foundOf prover k limit form s ≡ refused number at)
+    no-accepted-runs is = (empty-when-refused request prover k limit form s asked is, same-number request prover k limit form s asked is)
 
 -- ---- the water draw
 

@@ -2,10 +2,10 @@
 use mathlib.Core.Path.{sym, _∙_}
 use lib.ListN.{length}
 use Rattle.factors.specs.Places.{digits}
-use Rattle.promises.specs.Arguments.{first, second, third, fourth, fifth, sixth}
+use Rattle.promises.specs.Arguments.{first, second, third, fourth, fifth, sixth, seventh}
 use Rattle.promises.specs.Entries.{Entries}
 use Rattle.promises.proofs.Endings.{as-told}
-use Rattle.promises.proofs.Demand1.{cts-ends, cps-ends, cpl-ends, worked-ends, shown-ends, job-ends, none-when-refused, write-ends, read-ends, fill-ends, volumes-end, draw-ends}
+use Rattle.promises.proofs.Demand1.{cts-ends, cps-ends, cpl-ends, worked-ends, shown-ends, job-ends, forward-ends, back-ends, none-when-refused, write-ends, read-ends, fill-ends, volumes-end, draw-ends}
 use Rattle.promises.proofs.Demand1.{ticket-ends, live-ends, channels-end, panel-temperature-ends, panel-pressure-ends, look-up-ends, request-ends, withdrawal-ends, take-ends, setting-ends, commons-end, left-as-found, request-leaves-book, withdrawal-leaves-book, take-leaves-book, setting-leaves-book}
 
 pub entries : Entries
@@ -15,10 +15,14 @@ entries =
       cps-entry = λ κ a r x p. as-told p (cps-ends (digits (third a)) (second a) (first a));
       cpl-entry = λ κ a r x p. as-told p (cpl-ends (digits (second a)) (first a));
       work-out-entry = λ κ a r x p. as-told p (worked-ends (first a) (second a) (third a) (fourth a));
-      show-entry = λ κ a r x p. as-told p (shown-ends (first a) (second a) (third a .now));
-      prove-entry = λ κ a r x p. as-told (p .0) (job-ends (first a) (second a) (third a) (fourth a) (fifth a .now) (length (sixth a .now)));
-      prove-leaves = λ κ a r x p is. p .1 ∙ left-as-found _ (sixth a .now) (sym (p .0) ∙ is);
-      accept-hands-none = λ κ a r x p is. p ∙ none-when-refused (first a) (second a) (third a) (fourth a .now) is;
+      show-entry = λ κ a r x p. as-told p (shown-ends (first a) (second a) (third a) (fourth a .now));
+      prove-entry = λ κ a r x p. as-told (p .0) (job-ends (first a) (second a) (third a) (fourth a) (fifth a) (sixth a .now) (length (seventh a .now)));
+      prove-leaves = λ κ a r x p is. p .1 ∙ left-as-found _ (seventh a .now) (sym (p .0) ∙ is);
+      accept-hands-none = λ κ a r x p is. p ∙ none-when-refused (first a) (second a) (third a) (fourth a) (fifth a .now) is;
+      forward-entry = λ κ a r x p. as-told (p .0) (forward-ends (first a .now) (length (second a .now)));
+      forward-leaves = λ κ a r x p is. p .1 ∙ left-as-found _ (second a .now) (sym (p .0) ∙ is);
+      back-entry = λ κ a r x p. as-told (p .0) (back-ends (first a .now) (length (second a .now)));
+      back-leaves = λ κ a r x p is. p .1 ∙ left-as-found _ (second a .now) (sym (p .0) ∙ is);
       write-entry = λ κ a r x p. as-told (p .0) (write-ends (length (fifth a .now)) (first a) (second a) (third a) (fourth a));
       write-leaves = λ κ a r x p is. p .1 ∙ left-as-found _ (fifth a .now) (sym (p .0) ∙ is);
       read-entry = λ κ a r x p. as-told p (read-ends (first a .now));

@@ -8,7 +8,9 @@ use Rattle.exact.specs.Quotient.{quotientOf}
 use Rattle.octets.specs.Lists.{isOneOf}
 use Rattle.octets.specs.Records.{recordsIn, zerosAfter}
 use Rattle.factors.specs.Metal.{metalBy}
-use Rattle.run.specs.Record.{runSize}
+use Rattle.run.specs.Record.{sizeOf}
+use Rattle.run.specs.declared.Form.{Form}
+use Rattle.run.specs.declared.Form.the-variants.{Short, Long}
 use Rattle.factors.specs.declared.Prover.{Prover}
 use Rattle.proving.specs.Job.{foundOf, acceptedBy, acceptedOf}
 use Rattle.draw.specs.Profile.{volumesOf}
@@ -24,18 +26,22 @@ use Rattle.promises.specs.Numbers.{passesNumbers}
 use Rattle.promises.specs.Arguments.{first, second, third, fourth, fifth, sixth}
 use Rattle.promises.specs.FlatEnding.{FlatEnds, byKind, passesIn}
 use Rattle.promises.specs.EntriesC.{EntriesC}
-use Rattle.promises.proofs.FlatEndings.{flat-ends, flat-leaves, done-at-zero, refused-at-other, factor-back, report-back, run-back, fill-back, passes-back, volumes-back, draw-back, ticket-back, live-back, panel-back, entry-back, change-back, take-back, commons-back, quotient-back, no-quotient}
-use Rattle.promises.proofs.Demand1.{cts-ends, cps-ends, cpl-ends, shown-ends, job-ends, write-ends, read-ends, fill-ends, volumes-end, draw-ends, ticket-ends, live-ends, channels-end, panel-temperature-ends, panel-pressure-ends, look-up-ends, request-ends, withdrawal-ends, take-ends, setting-ends, commons-end}
+use Rattle.promises.proofs.FlatEndings.{flat-ends, flat-leaves, done-at-zero, refused-at-other, factor-back, report-back, run-back, fill-back, passes-back, volumes-back, draw-back, ticket-back, live-back, panel-back, entry-back, moved-back, change-back, take-back, commons-back, quotient-back, no-quotient}
+use Rattle.promises.proofs.Demand1.{cts-ends, cps-ends, cpl-ends, shown-ends, job-ends, write-ends, read-ends, fill-ends, volumes-end, draw-ends, ticket-ends, live-ends, channels-end, panel-temperature-ends, panel-pressure-ends, look-up-ends, forward-ends, back-ends, request-ends, withdrawal-ends, take-ends, setting-ends, commons-end}
 use Rattle.promises.proofs.Demand1.{left-as-found, request-leaves-book, withdrawal-leaves-book, take-leaves-book, setting-leaves-book}
 
 -- start and length in the lent records are the accepted runs
-part-accepted : (t : Told ℕ) (s : List ℕ) → take (partOf t .length) (drop (partOf t .start) s) ≡ acceptedBy runSize t s
-part-accepted (done at) s = refl
-part-accepted (refused number at) s = refl
+part-accepted : (form : Form) (t : Told ℕ) (s : List ℕ) → take (partOf form t .length) (drop (partOf form t .start) s) ≡ acceptedBy (sizeOf form) t s
+part-accepted form (done at) s = refl
+part-accepted form (refused number at) s = refl
 
-part-is-accepted : (prover : Prover) (k limit : ℕ) (s : List ℕ) → take (partOf (foundOf prover k limit s) .length) (drop (partOf (foundOf prover k limit s) .start) s) ≡ acceptedOf prover k limit s
+part-is-accepted : (prover : Prover) (k limit : ℕ) (form : Form) (s : List ℕ) → take (partOf form (foundOf prover k limit form s) .length) (drop (partOf form (foundOf prover k limit form s) .start) s) ≡ acceptedOf prover k limit form s
 unfolding acceptedOf
-part-is-accepted prover k limit s = part-accepted (foundOf prover k limit s) s
+part-is-accepted prover k limit form s = part-accepted form (foundOf prover k limit form s) s
+
+-- what a part is, by what is told
+part-told : (form : Form) {r : EndakuroPart} {t u : Told ℕ} → r ≡ partOf form t → t ≡ u → (r .start ≡ partOf form u .start) × (r .length ≡ partOf form u .length)
+part-told form p is = (ap (λ (f : EndakuroPart). f .start) (p ∙ ap (partOf form) is), ap (λ (f : EndakuroPart). f .length) (p ∙ ap (partOf form) is))
 
 -- passes or round trips: their count, and the volumes that stand beside it, by what is told
 module _ (profile : Profile) (prover : Prover) (s : List ℕ) where
@@ -77,14 +83,26 @@ entries-c =
       cps-six-entry = λ κ a r x p. flat-ends refl 0 factor-back p (cps-ends 6 (pipeBy (second a) (third a) (fourth a)) (first a));
       cpl-four-entry = λ κ a r x p. flat-ends refl 0 factor-back p (cpl-ends 4 (liquidBy (first a) (second a) (third a)));
       cpl-six-entry = λ κ a r x p. flat-ends refl 0 factor-back p (cpl-ends 6 (liquidBy (first a) (second a) (third a)));
-      prove-entry = λ κ a r x p. flat-ends refl noReport report-back (p .0) (job-ends (first a) (proverBy (second a)) (third a) (fourth a) (fifth a .now) (length (sixth a .now)));
+      prove-entry = λ κ a r x p. flat-ends refl noReport report-back (p .0) (job-ends (first a) (proverBy (second a)) (third a) (fourth a) Short (fifth a .now) (length (sixth a .now)));
       prove-leaves = λ κ a r x p.
-          flat-leaves (flat-ends refl noReport report-back (p .0) (job-ends (first a) (proverBy (second a)) (third a) (fourth a) (fifth a .now) (length (sixth a .now))))
+          flat-leaves (flat-ends refl noReport report-back (p .0) (job-ends (first a) (proverBy (second a)) (third a) (fourth a) Short (fifth a .now) (length (sixth a .now))))
           (λ number at is. p .1 ∙ left-as-found _ (sixth a .now) is);
-      accept-hands-none = λ κ a r x p is. (ap (λ (f : EndakuroPart). f .start) (p ∙ ap partOf is), ap (λ (f : EndakuroPart). f .length) (p ∙ ap partOf is));
-      accept-hands-five = λ κ a r x p is. (ap (λ (f : EndakuroPart). f .start) (p ∙ ap partOf is), ap (λ (f : EndakuroPart). f .length) (p ∙ ap partOf is));
-      accept-hands-the-runs = λ κ a r x p. ap (λ (f : EndakuroPart). take (f .length) (drop (f .start) (fourth a .now))) p ∙ part-is-accepted (proverBy (first a)) (second a) (third a) (fourth a .now);
-      run-entry = λ κ a r x p. flat-ends refl noFigures run-back p (shown-ends (proverBy (first a)) (second a) (third a .now));
+      accept-hands-none = λ κ a r x p is. part-told Short p is;
+      accept-hands-five = λ κ a r x p is. part-told Short p is;
+      accept-hands-the-runs = λ κ a r x p. ap (λ (f : EndakuroPart). take (f .length) (drop (f .start) (fourth a .now))) p ∙ part-is-accepted (proverBy (first a)) (second a) (third a) Short (fourth a .now);
+      run-entry = λ κ a r x p. flat-ends refl noFigures run-back p (shown-ends (proverBy (first a)) (second a) Short (third a .now));
+      prove-long-entry = λ κ a r x p. flat-ends refl noReport report-back (p .0) (job-ends (first a) (proverBy (second a)) (third a) (fourth a) Long (fifth a .now) (length (sixth a .now)));
+      prove-long-leaves = λ κ a r x p.
+          flat-leaves (flat-ends refl noReport report-back (p .0) (job-ends (first a) (proverBy (second a)) (third a) (fourth a) Long (fifth a .now) (length (sixth a .now))))
+          (λ number at is. p .1 ∙ left-as-found _ (sixth a .now) is);
+      accept-long-hands-none = λ κ a r x p is. part-told Long p is;
+      accept-long-hands-five = λ κ a r x p is. part-told Long p is;
+      accept-long-hands-the-runs = λ κ a r x p. ap (λ (f : EndakuroPart). take (f .length) (drop (f .start) (fourth a .now))) p ∙ part-is-accepted (proverBy (first a)) (second a) (third a) Long (fourth a .now);
+      run-long-entry = λ κ a r x p. flat-ends refl noFigures run-back p (shown-ends (proverBy (first a)) (second a) Long (third a .now));
+      forward-entry = λ κ a r x p. flat-ends refl 0 moved-back (p .0) (forward-ends (first a .now) (length (second a .now)));
+      forward-leaves = λ κ a r x p. flat-leaves (flat-ends refl 0 moved-back (p .0) (forward-ends (first a .now) (length (second a .now)))) (λ number at is. p .1 ∙ left-as-found _ (second a .now) is);
+      back-entry = λ κ a r x p. flat-ends refl 0 moved-back (p .0) (back-ends (first a .now) (length (second a .now)));
+      back-leaves = λ κ a r x p. flat-leaves (flat-ends refl 0 moved-back (p .0) (back-ends (first a .now) (length (second a .now)))) (λ number at is. p .1 ∙ left-as-found _ (second a .now) is);
       write-entry = λ κ a r x p. flat-ends refl noReport report-back (p .0) (write-ends (length (fifth a .now)) (first a) (second a) (third a) (factorsBy (fourth a)));
       write-leaves = λ κ a r x p.
           flat-leaves (flat-ends refl noReport report-back (p .0) (write-ends (length (fifth a .now)) (first a) (second a) (third a) (factorsBy (fourth a))))

@@ -11,7 +11,7 @@ use Rattle.draw.specs.Profile.{passesFit, outPass, firstPass}
 use Rattle.draw.specs.Answers.{toldDraw}
 use Rattle.draw.specs.declared.Profile.{Profile}
 use Rattle.draw.specs.declared.Profile.the-variants.{Bidirectional}
-use Rattle.promises.specs.Arguments.{first, second, third, fourth, fifth, sixth}
+use Rattle.promises.specs.Arguments.{first, second, third, fourth, fifth, sixth, seventh}
 use Rattle.promises.specs.EntryFormulas.{EntryFormulas}
 use Rattle.promises.proofs.Demand2.{accepted-only-when, first-is-used, draw-accepted-only-when, draw-first-is-used}
 use Rattle.promises.proofs.Formulas.{cts-rounded, cps-rounded, cpl-rounded, combined-rounded, run-rounded, accepted-run-rounded, job-factor-rounded, fill-rounded, fill-told, pass-rounded, passes-counted, trips-counted, base-rounded, ticket-rounded}
@@ -30,9 +30,9 @@ entry-formulas =
       combined-of-entry = λ κ a r x p is. combined-rounded (digits (second a)) (first a .now) (sym p ∙ is);
       run-of-entry = λ κ a r x p is. run-rounded (first a) (second a) (third a) (fourth a) (sym p ∙ is);
       runs-of-job = λ κ a r x report p is.
-          accepted-run-rounded (second a) (third a) (fourth a) (fifth a .now) (accepted-only-when (second a) (third a) (fourth a) (fifth a .now) (first a) (length (sixth a .now)) (sym (p .0) ∙ ap toldReport is) .1);
+          accepted-run-rounded (second a) (third a) (fourth a) (fifth a) (sixth a .now) (accepted-only-when (second a) (third a) (fourth a) (fifth a) (sixth a .now) (first a) (length (seventh a .now)) (sym (p .0) ∙ ap toldReport is) .1);
       factor-of-job = λ κ a r x report p is.
-          job-factor-rounded (first a) (second a) (third a) (fourth a) (fifth a .now) report (first-is-used (second a) (third a) (fourth a) (fifth a .now) (first a) (length (sixth a .now)) (sym (p .0) ∙ ap toldReport is));
+          job-factor-rounded (first a) (second a) (third a) (fourth a) (fifth a) (sixth a .now) report (first-is-used (second a) (third a) (fourth a) (fifth a) (sixth a .now) (first a) (length (seventh a .now)) (sym (p .0) ∙ ap toldReport is));
       fill-of-entry = λ κ a r x p is. fill-told (first a) (second a .now) (sym p ∙ is);
       fills-of-draw = λ κ a r x base p is i h.
           let fills = draw-accepted-only-when (first a) (second a) (third a .now) (sym p ∙ ap toldDraw is) .input .fills in

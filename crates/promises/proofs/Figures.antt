@@ -42,11 +42,11 @@ use Rattle.book.specs.Figures.{shippers, overShippers, reserveIn, ceilingIn, pl
 use Rattle.book.specs.Rules.{isShare, isShareAt, areShares, keepRules}
 use Rattle.book.specs.Sound.{isLineSound, isSoundAt, areLinesSound, isSound}
 use Rattle.book.specs.Calls.{callFault, hasRoom, entryFault, requestFault, requestOf, entered, afterRequest}
-use Rattle.promises.specs.Figures.{prover, run, propaneProver, propane, fillBytes, fill, six, passes, drawn, ticket, reportOn, sent, Figures, Besides}
+use Rattle.promises.specs.Figures.{prover, interpolated, run, propaneProver, propane, fillBytes, fill, six, passes, drawn, ticket, reportOn, sent, Figures, Besides}
 
 -- both tables by reckoning alone: what their figures are made of, unfolded once
 reckoned : Figures × Besides
-unfolding prover run propaneProver propane fillBytes fill six passes drawn ticket reportOn temperatureOk drawProverOk drawMeasureOk pressureOk coefficientOk modulusOk diameterOk wallOk compressibilityOk ctlOk ctdwOk runFactorOk volumeOk pulsesOk kFactorOk runsOk passesOk fillsOk certifiedOk scaleOk readingOk meterFactorOk sedimentOk roundedDiv rounded sumOf numberAt byteAt wordAt longAt signedOf signedAt isZeroAt zeroBetween bytesOf recordsIn areRecords firstToLast placeIf meanOf listed smallest largest qualifies groupAt qualifiesAt firstGroup metalOk pipeOk proverOk liquidOk cplFrom ctsAt cpsAt cplAt combinedAt correctedAt cts cps cpl combined ctsOf cpsOf cplOf sideOk runOk indicatedBy steelCts steelCps correctedBy atProver atMeter figuresFrom runFigures givenFault figuresFault figuresTold workedOf listOf fieldsOf bytesOfReport factorsOk firstOk jobOk reportOk isReport reportOf writeOf readOf fiveAt fillFrom fillAt fillOk unnamedOk follows ruleOk adjusted measureCts proverCts ccts drawnBy fillFigures passCount isOf drawnFor passSum passPressure waterAt correctedVolume passVolume passesFit volumeCount volumeOf firstPass volumesOf barrelsOf baseFrom baseOf recordFault fillFault fillsFault drawFault fillOf drawOf ticketOk indicated factor gross net volumes ticketOf numerator denominator awayFromZero wholeOf singleOf temperatureOf psiOk pressureOf liveOf ofBits cast tenth panelTemperatureOf panelPressureOf ofInt div waiting lineOf isOneOf areProper shippers overShippers reserveIn ceilingIn defaultFigures isShare isShareAt areShares keepRules places reserve ceiling commons lineAt waitingOf has beyond commonsUsed put emptyBook isLineSound isSoundAt areLinesSound isSound hasRoom callFault entryFault requestFault requestOf entered afterRequest sent
+unfolding prover interpolated run propaneProver propane fillBytes fill six passes drawn ticket reportOn temperatureOk drawProverOk drawMeasureOk pressureOk coefficientOk modulusOk diameterOk wallOk compressibilityOk ctlOk ctdwOk runFactorOk volumeOk pulsesOk kFactorOk runsOk passesOk fillsOk certifiedOk scaleOk readingOk meterFactorOk sedimentOk roundedDiv rounded sumOf numberAt byteAt wordAt longAt signedOf signedAt isZeroAt zeroBetween bytesOf recordsIn areRecords firstToLast placeIf meanOf listed smallest largest qualifies groupAt qualifiesAt firstGroup metalOk pipeOk proverOk liquidOk cplFrom ctsAt cpsAt cplAt combinedAt correctedAt cts cps cpl combined ctsOf cpsOf cplOf sideOk runOk indicatedBy steelCts steelCps correctedBy atProver atMeter figuresFrom runFigures givenFault figuresFault figuresTold workedOf listOf fieldsOf bytesOfReport factorsOk firstOk jobOk reportOk isReport reportOf writeOf readOf fiveAt fillFrom fillAt fillOk unnamedOk follows ruleOk adjusted measureCts proverCts ccts drawnBy fillFigures passCount isOf drawnFor passSum passPressure waterAt correctedVolume passVolume passesFit volumeCount volumeOf firstPass volumesOf barrelsOf baseFrom baseOf recordFault fillFault fillsFault drawFault fillOf drawOf ticketOk indicated factor gross net volumes ticketOf numerator denominator awayFromZero wholeOf singleOf temperatureOf psiOk pressureOf liveOf ofBits cast tenth panelTemperatureOf panelPressureOf ofInt div waiting lineOf isOneOf areProper shippers overShippers reserveIn ceilingIn defaultFigures isShare isShareAt areShares keepRules places reserve ceiling commons lineAt waitingOf has beyond commonsUsed put emptyBook isLineSound isSoundAt areLinesSound isSound hasRoom callFault entryFault requestFault requestOf entered afterRequest sent
 reckoned = (
   record {
     cts-at-70 = refl;
@@ -74,6 +74,7 @@ reckoned = (
   record {
     no-volume = refl;
     no-factor = refl;
+    not-whole = refl;
     figure-6 = refl;
     at-equilibrium = refl;
     below-equilibrium = refl;

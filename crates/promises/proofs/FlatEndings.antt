@@ -9,12 +9,12 @@ use Rattle.octets.specs.Lists.{isOneOf}
 use Rattle.exact.specs.declared.Quotient.{Quotient}
 use Rattle.exact.specs.declared.Quotient.the-variants.{Value, ZeroDivisor, TooLarge}
 use Rattle.api.specs.Flat.{numberIn, recordIn, valuesIn, noReport, noFigures, noFill, noBase, noVolumes, noReading, nothingShown, noEntry, noHandout, noCommons}
-use Rattle.api.specs.Flat.{flatFactor, flatReport, flatRun, flatFill, flatPasses, flatDraw, flatVolumes, flatLive, flatPanel, flatEntry, flatDone, flatTaken, flatCommons, flatQuotient}
+use Rattle.api.specs.Flat.{flatFactor, flatReport, flatRun, flatFill, flatPasses, flatDraw, flatVolumes, flatLive, flatPanel, flatEntry, flatMoved, flatDone, flatTaken, flatCommons, flatQuotient}
 use Rattle.api.specs.declared.water.EndakuroPasses.{EndakuroPasses}
 use Rattle.promises.proofs.Groups.{apart}
 use Rattle.promises.specs.Ending.{recordOk, refusalOk, Ends}
 use Rattle.promises.specs.FlatEnding.{Flat, byNumber, FlatEnds, LeavesAsFound, byKind}
-use Rattle.promises.specs.FlatEnding.{factorIn, reportIn, runIn, fillIn, passesIn, baseIn, volumesIn, readingIn, shownIn, entryIn, changeIn, handoutIn, commonsIn}
+use Rattle.promises.specs.FlatEnding.{factorIn, reportIn, runIn, fillIn, passesIn, baseIn, volumesIn, readingIn, shownIn, entryIn, movedIn, changeIn, handoutIn, commonsIn}
 
 -- what a struct holds of what was told
 abbrev pub held : {A : Type 0} → A → Told A → Flat A
@@ -102,6 +102,10 @@ panel-back = record { same = λ t. refl }
 pub entry-back : ReadBack noEntry flatEntry entryIn
 unfolding flatEntry
 entry-back = record { same = λ t. refl }
+
+pub moved-back : ReadBack 0 flatMoved movedIn
+unfolding flatMoved
+moved-back = record { same = λ t. refl }
 
 pub change-back : ReadBack tt flatDone changeIn
 unfolding flatDone

@@ -37,6 +37,10 @@ use Rattle.lookup.specs.Answers.{told as toldLookUp}
 use Rattle.lookup.specs.declared.LookUp.{LookUp}
 use Rattle.lookup.specs.declared.LookUp.the-variants as looked
 use Rattle.lookup.proofs.Outcome.{told-one as look-up-one}
+use Rattle.moving.specs.Answers.{told as toldMoved}
+use Rattle.moving.specs.declared.Moved.{Moved}
+use Rattle.moving.specs.declared.Moved.the-variants as moved
+use Rattle.moving.proofs.Laws.{told-one as moved-one}
 use Rattle.book.specs.Answers.{toldChange, toldTake, toldCommons}
 use Rattle.book.specs.declared.Change.{Change}
 use Rattle.book.specs.declared.Change.the-variants as change
@@ -48,7 +52,7 @@ use Rattle.book.proofs.Outcomes.{change-one, handout-one, commons-one}
 use Rattle.api.specs.declared.quotients.EndakuroQuotient.{EndakuroQuotient}
 use Rattle.promises.specs.FlatEnding.{Flat, byKind, passesIn}
 use Rattle.promises.specs.Flattened.{LosesNothing, Flattened}
-use Rattle.promises.proofs.FlatEndings.{held, ReadBack, factor-back, report-back, run-back, fill-back, passes-back, volumes-back, draw-back, ticket-back, live-back, panel-back, entry-back, change-back, take-back, commons-back, quotient-back}
+use Rattle.promises.proofs.FlatEndings.{held, ReadBack, factor-back, report-back, run-back, fill-back, passes-back, volumes-back, draw-back, ticket-back, live-back, panel-back, entry-back, moved-back, change-back, take-back, commons-back, quotient-back}
 
 -- what is told is done, or refused with a number that is not 0
 abbrev Numbered : {A : Type 0} → Told A → Type 0
@@ -109,6 +113,10 @@ look-up-numbered : (a : LookUp) → Numbered (toldLookUp a)
 look-up-numbered (looked.Found entry) = tt
 look-up-numbered (looked.Refused why) = not-zero why
 
+moved-numbered : (a : Moved) → Numbered (toldMoved a)
+moved-numbered (moved.Records count) = tt
+moved-numbered (moved.Refused why) = not-zero why
+
 change-numbered : (a : Change) → Numbered (toldChange a)
 change-numbered change.Made = tt
 change-numbered (change.Refused why) = not-zero why
@@ -137,6 +145,7 @@ flattened =
       live-loses-nothing = loses-nothing live-back live-one live-numbered;
       panel-loses-nothing = loses-nothing panel-back panel-one panel-numbered;
       look-up-loses-nothing = loses-nothing entry-back look-up-one look-up-numbered;
+      moved-loses-nothing = loses-nothing moved-back moved-one moved-numbered;
       change-loses-nothing = loses-nothing change-back change-one change-numbered;
       take-loses-nothing = loses-nothing take-back handout-one take-numbered;
       commons-lose-nothing = loses-nothing commons-back commons-one commons-numbered;

@@ -34,7 +34,8 @@ use Rattle.factors.specs.declared.Prover.{Prover}
 use Rattle.factors.proofs.Steel.{parts, Loads, loads}
 use Rattle.group.specs.Mean.{meanOf}
 use Rattle.exact.specs.Words.{sumOf}
-use Rattle.run.specs.Record.{runSize, runAt, runOk}
+use Rattle.run.specs.Record.{runAt, runOk}
+use Rattle.run.specs.declared.Form.{Form}
 use Rattle.run.specs.Figures.{indicated, steelCts, steelCps, correctedBy, atProver, atMeter, figuresFrom, figuresOf}
 use Rattle.run.specs.Answers.{givenFault, figuresFault, figuresTold, workedOf}
 use Rattle.run.specs.declared.Run.{Run}
@@ -151,7 +152,7 @@ figures-rounded prover k run settings kOk fits factorOk =
     let p : ProverFits prover = prover-fits prover settings in
     let r : RunFits run = run-fits run fits in
     record {
-      indicated-volume = to 4 (run .pulses * 1000) k (omega (arith, within-low 1 1000000000 k kOk));
+      indicated-volume = to 4 (run .pulses) k (omega (arith, within-low 1 1000000000 k kOk));
       steel-temperature = cts-once 4 (prover .metal) (run .prover .temperature);
       steel-pressure = cps-once 4 (prover .pipe) (run .prover .liquid .pressure) (p .pipe) (pressure-fits (run .prover .liquid) (r .prover .liquid));
       prover-liquid = cpl-once 4 (run .prover .liquid) (r .prover .liquid);
@@ -179,8 +180,8 @@ run-rounded prover k run at {f} is =
     (demandAt-was (runFactorOk (x .factor)) 8 at (orElse-fine-next (demandAt (volumeOk (x .indicated)) 7 at) _ (judged-was own x (parts .1)))))
 
 -- every run of an acceptable job
-pub accepted-run-rounded : (prover : Prover) (k limit : ℕ) (s : List ℕ) → Acceptable prover k limit s → (i : ℕ) → i < runsIn s → RunRounded prover k (runAt runSize s i) (figuresOf prover k (runAt runSize s i))
-accepted-run-rounded prover k limit s ok i h = figures-rounded prover k (runAt runSize s i) (ok .input .settled .settings) (ok .input .settled .kFactor) (ok .input .records i h .fields) (ok .figures i h .factor)
+pub accepted-run-rounded : (prover : Prover) (k limit : ℕ) (form : Form) (s : List ℕ) → Acceptable prover k limit form s → (i : ℕ) → i < runsIn form s → RunRounded prover k (runAt form s i) (figuresOf prover k (runAt form s i))
+accepted-run-rounded prover k limit form s ok i h = figures-rounded prover k (runAt form s i) (ok .input .settled .settings) (ok .input .settled .kFactor) (ok .input .records i h .fields) (ok .figures i h .factor)
 
 -- the mean of n values is their sum over n
 mean-rounded : (f : ℕ → ℕ) (n at : ℕ) → 0 < n → RoundedOnce (sumOf (listed f n at)) n (meanOf (listed f n at))
@@ -190,9 +191,9 @@ mean-rounded f n at h =
     subst (λ (d : ℕ). RoundedOnce (sumOf (listed f n at)) n (roundedDiv (sumOf (listed f n at)) d)) (sym long) (once (sumOf (listed f n at)) n h)
 
 -- 'The job's factor is their mean, rounded.'
-pub job-factor-rounded : (request : ℕ) (prover : Prover) (k limit : ℕ) (s : List ℕ) (r : Report) → Used request prover k limit s r → RoundedOnce (sumOf (listOf (r .factors))) 5 (r .factor)
-job-factor-rounded request prover k limit s r used =
-    subst (λ (xs : List ℕ). RoundedOnce (sumOf xs) 5 (r .factor)) (sym (used .factors)) (moved (sym (used .factor)) (mean-rounded (factorAt prover k s) 5 (used .place) (omega arith)))
+pub job-factor-rounded : (request : ℕ) (prover : Prover) (k limit : ℕ) (form : Form) (s : List ℕ) (r : Report) → Used request prover k limit form s r → RoundedOnce (sumOf (listOf (r .factors))) 5 (r .factor)
+job-factor-rounded request prover k limit form s r used =
+    subst (λ (xs : List ℕ). RoundedOnce (sumOf xs) 5 (r .factor)) (sym (used .factors)) (moved (sym (used .factor)) (mean-rounded (factorAt prover k form s) 5 (used .place) (omega arith)))
 
 -- ---- a water draw
 

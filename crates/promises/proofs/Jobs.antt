@@ -19,7 +19,7 @@ use Rattle.draw.specs.declared.Profile.{Profile}
 use Rattle.draw.specs.declared.Profile.the-variants.{Unidirectional, Bidirectional}
 use Rattle.draw.specs.declared.WaterDraw.the-variants.{Drawn}
 use Rattle.draw.proofs.Outcome.{count-one, draw-one}
-use Rattle.promises.specs.Arguments.{first, second, third, fourth, fifth, sixth}
+use Rattle.promises.specs.Arguments.{first, second, third, fourth, fifth, sixth, seventh}
 use Rattle.promises.specs.Jobs.{Jobs}
 use Rattle.promises.proofs.Demand2.{accepted-only-when, accepted-when, first-is-used, draw-accepted-only-when, draw-accepted-when, draw-first-is-used}
 
@@ -57,12 +57,12 @@ draw-takes profile p s = λ i. unless (fault-takes profile p s i) (baseOf profil
 pub jobs : Jobs
 jobs =
     record {
-      proved-only-when = λ κ a r x report p is. accepted-only-when (second a) (third a) (fourth a) (fifth a .now) (first a) (length (sixth a .now)) (sym (p .0) ∙ ap told is);
+      proved-only-when = λ κ a r x report p is. accepted-only-when (second a) (third a) (fourth a) (fifth a) (sixth a .now) (first a) (length (seventh a .now)) (sym (p .0) ∙ ap told is);
       proved-of-the-first = λ κ a r x report p is.
           let job = sym (p .0) ∙ ap told is in
-          (first-is-used (second a) (third a) (fourth a) (fifth a .now) (first a) (length (sixth a .now)) job, p .1 ∙ ap (λ (t : Told Report). leftBy t bytesOfReport (sixth a .now)) job);
+          (first-is-used (second a) (third a) (fourth a) (fifth a) (sixth a .now) (first a) (length (seventh a .now)) job, p .1 ∙ ap (λ (t : Told Report). leftBy t bytesOfReport (seventh a .now)) job);
       proved-when = λ κ a r x p asked ok.
-          let job = accepted-when (second a) (third a) (fourth a) (fifth a .now) (first a) (length (sixth a .now)) asked ok in
+          let job = accepted-when (second a) (third a) (fourth a) (fifth a) (sixth a .now) (first a) (length (seventh a .now)) asked ok in
           (job .0, told-one r (Fields (job .0)) (p .0 ∙ job .1));
       drawn-only-when = λ κ a r x base p is. draw-accepted-only-when (first a) (second a) (third a .now) (sym p ∙ ap toldDraw is);
       drawn-of-the-first = λ κ a r x base p is. draw-first-is-used (first a) (second a) (third a .now) (sym p ∙ ap toldDraw is);

@@ -16,10 +16,11 @@ use Rattle.factors.specs.Metal.{metalOk}
 use Rattle.factors.specs.Prover.{pipeOk, proverOk}
 use Rattle.factors.specs.declared.Prover.{Prover}
 use Rattle.group.specs.Repeatability.{firstGroup, nineUnless}
-use Rattle.run.specs.Record.{runSize, runAt, runOk, unnamedOk}
+use Rattle.run.specs.Record.{sizeOf, runAt, runOk, unnamedOk}
+use Rattle.run.specs.declared.Form.{Form}
 use Rattle.run.specs.Figures.{figuresOf}
-use Rattle.run.specs.Answers.{figuresFault}
-use Rattle.proving.specs.Judging.{runsIn, settingsFault, recordFault, runFault, inputFault}
+use Rattle.run.specs.Answers.{recordFault, figuresFault}
+use Rattle.proving.specs.Judging.{runsIn, settingsFault, lentFault, runFault, inputFault}
 use Rattle.proving.specs.Job.{firstFive, foundOf, reportAt, jobOf}
 use Rattle.draw.specs.Fill.{fillAt, fillOk, unnamedOk as fillUnnamedOk, ruleOk}
 use Rattle.draw.specs.Passes.{passCount}
@@ -47,27 +48,27 @@ lent-judged countOk size s =
     ) in
     demanded (areRecords countOk size (length s)) 1 0 says (decided _ says)
 
-module _ (prover : Prover) (k : ℕ) (s : List ℕ) where
+module _ (prover : Prover) (k : ℕ) (form : Form) (s : List ℕ) where
   abbrev Volume : ℕ → Bool
-  Volume i = volumeOk (figuresOf prover k (runAt runSize s i) .indicated)
+  Volume i = volumeOk (figuresOf prover k (runAt form s i) .indicated)
 
   abbrev Factor : ℕ → Bool
-  Factor i = runFactorOk (figuresOf prover k (runAt runSize s i) .factor)
+  Factor i = runFactorOk (figuresOf prover k (runAt form s i) .factor)
 
   -- 5 and 2 of a record, 7 and 8 of a run
   abbrev RecordCause : ℕ → ℕ → ℕ → Type 0
-  RecordCause i = InTurn (At 5 (i + 1) (runOk (runAt runSize s i) ≡ false)) (runOk (runAt runSize s i) ≡ true) (At 2 (i + 1) (unnamedOk runSize s i ≡ false))
+  RecordCause i = InTurn (At 5 (i + 1) (runOk (runAt form s i) ≡ false)) (runOk (runAt form s i) ≡ true) (At 2 (i + 1) (unnamedOk form s i ≡ false))
 
   abbrev RunCause : ℕ → ℕ → ℕ → Type 0
   RunCause i = InTurn (At 7 (i + 1) (Volume i ≡ false)) (Volume i ≡ true) (At 8 (i + 1) (Factor i ≡ false))
 
-  record-judged : (i : ℕ) → Exactly (RunInOrder s i) (RecordCause i) (recordFault s i)
+  record-judged : (i : ℕ) → Exactly (RunInOrder form s i) (RecordCause i) (lentFault form s i)
   unfolding recordFault
   record-judged i =
       in-words ((λ ok. record { fields = ok .0; unnamed = ok .1 }), (λ ok. (ok .fields, ok .unnamed))) (λ _ _. Iff·rfl)
-      (in-turn (tested (runOk (runAt runSize s i)) 5 (i + 1)) (tested (unnamedOk runSize s i) 2 (i + 1)))
+      (in-turn (tested (runOk (runAt form s i)) 5 (i + 1)) (tested (unnamedOk form s i) 2 (i + 1)))
 
-  run-judged : (i : ℕ) → Exactly (RunWithin prover k s i) (RunCause i) (runFault prover k s i)
+  run-judged : (i : ℕ) → Exactly (RunWithin prover k form s i) (RunCause i) (runFault prover k form s i)
   unfolding runFault figuresFault
   run-judged i =
       in-words ((λ ok. record { volume = ok .0; factor = ok .1 }), (λ ok. (ok .volume, ok .factor))) (λ _ _. Iff·rfl)
@@ -77,30 +78,30 @@ module _ (prover : Prover) (k : ℕ) (s : List ℕ) where
     -- 1, 3 and 4
     abbrev SettingsCause : ℕ → ℕ → Type 0
     SettingsCause =
-        InTurn (At 1 0 (Lent runsOk runSize s → ⊥)) (Lent runsOk runSize s)
+        InTurn (At 1 0 (Lent runsOk (sizeOf form) s → ⊥)) (Lent runsOk (sizeOf form) s)
         (InTurn (At 3 0 (proverOk prover ≡ false)) (proverOk prover ≡ true) (At 4 0 ((kFactorOk k && limitOk limit) ≡ false)))
 
-    settings-judged : Exactly (SettingsInOrder prover k limit s) SettingsCause (settingsFault prover k limit (length s))
+    settings-judged : Exactly (SettingsInOrder prover k limit form s) SettingsCause (settingsFault prover k limit form (length s))
     unfolding settingsFault
     settings-judged =
         in-words (
           (λ ok. record { lent = ok .0; settings = ok .1 .0; kFactor = both-first (kFactorOk k) _ (ok .1 .1); limits = both-second (kFactorOk k) _ (ok .1 .1) }),
           (λ ok. (ok .lent, (ok .settings, both-true (ok .kFactor) (ok .limits)))),
         ) (λ _ _. Iff·rfl)
-        (in-turn (lent-judged runsOk runSize s) (in-turn (tested (proverOk prover) 3 0) (tested-both (kFactorOk k) (limitOk limit) 4 0)))
+        (in-turn (lent-judged runsOk (sizeOf form) s) (in-turn (tested (proverOk prover) 3 0) (tested-both (kFactorOk k) (limitOk limit) 4 0)))
 
     -- then the records, then the runs, then 9; and the same by the names of specs/Causes
     abbrev InputCause : ℕ → ℕ → Type 0
     InputCause =
-        InTurn SettingsCause (SettingsInOrder prover k limit s)
-        (InTurn (OfFirst (runsIn s) (RunInOrder s) RecordCause) (Every (runsIn s) (RunInOrder s)) (OfFirst (runsIn s) (RunWithin prover k s) RunCause))
+        InTurn SettingsCause (SettingsInOrder prover k limit form s)
+        (InTurn (OfFirst (runsIn form s) (RunInOrder form s) RecordCause) (Every (runsIn form s) (RunInOrder form s)) (OfFirst (runsIn form s) (RunWithin prover k form s) RunCause))
 
     abbrev FiveCause : ℕ → ℕ → Type 0
     FiveCause =
-        InTurn InputCause (SettingsInOrder prover k limit s × (Every (runsIn s) (RunInOrder s) × FiguresWithin prover k s))
-        (At 9 0 (((at : ℕ) × FiveMeet prover k limit s at) → ⊥))
+        InTurn InputCause (SettingsInOrder prover k limit form s × (Every (runsIn form s) (RunInOrder form s) × FiguresWithin prover k form s))
+        (At 9 0 (((at : ℕ) × FiveMeet prover k limit form s at) → ⊥))
 
-    named : {number at : ℕ} → FiveCause number at → ProvingCause prover k limit s number at
+    named : {number at : ℕ} → FiveCause number at → ProvingCause prover k limit form s number at
     named (sooner (sooner (sooner (here out)))) = cause.records-lent out
     named (sooner (sooner (later lent (sooner (here out))))) = cause.prover-setting lent out
     named (sooner (sooner (later lent (later ok (here out))))) = cause.k-factor-or-limit lent ok out
@@ -110,7 +111,7 @@ module _ (prover : Prover) (k : ℕ) (s : List ℕ) where
     named (sooner (later settled (later records (of i h before (later ok (here out)))))) = cause.run-factor (record { settled = settled; records = records }) i h before ok out
     named (later ok (here none-meet)) = cause.no-group (record { settled = ok .0; records = ok .1 .0 }) (ok .1 .1) (λ at five. none-meet (at, five))
 
-    meant : {number at : ℕ} → ProvingCause prover k limit s number at → FiveCause number at
+    meant : {number at : ℕ} → ProvingCause prover k limit form s number at → FiveCause number at
     meant (cause.records-lent out) = sooner (sooner (sooner (here out)))
     meant (cause.prover-setting lent out) = sooner (sooner (later lent (sooner (here out))))
     meant (cause.k-factor-or-limit lent ok out) = sooner (sooner (later lent (later ok (here out))))
@@ -121,17 +122,17 @@ module _ (prover : Prover) (k : ℕ) (s : List ℕ) where
     meant (cause.no-group input figures none-meet) = later (input .settled, (input .records, figures)) (here (λ five. none-meet (five .0) (five .1)))
 
     -- with or without a buffer and a request number, whatever follows from the five
-    pub proving-tells : {R : Type 0} (follows : ℕ → R) → Tells (Acceptable prover k limit s) (ProvingCause prover k limit s) (unless (inputFault prover k limit s) (nineUnless (firstFive prover k limit s) follows))
+    pub proving-tells : {R : Type 0} (follows : ℕ → R) → Tells (Acceptable prover k limit form s) (ProvingCause prover k limit form s) (unless (inputFault prover k limit form s) (nineUnless (firstFive prover k limit form s) follows))
     unfolding inputFault
     proving-tells follows =
         tells-in-words (
           (λ ok. record { input = record { settled = ok .0 .0; records = ok .0 .1 .0 }; figures = ok .0 .1 .1; place = ok .1 .0; five = ok .1 .1 }),
           (λ ok. ((ok .input .settled, (ok .input .records, ok .figures)), (ok .place, ok .five))),
         ) (λ _ _. (named, meant))
-        (by-unless (in-turn settings-judged (in-turn (first-to-last (recordFault s) (runsIn s) record-judged) (first-to-last (runFault prover k s) (runsIn s) run-judged)))
-        (tells-nine (firstFive prover k limit s) follows (λ at is. (at, first-five-meet prover k s limit at is)) (λ is five. no-five prover k s limit is (five .0) (five .1))))
+        (by-unless (in-turn settings-judged (in-turn (first-to-last (lentFault form s) (runsIn form s) record-judged) (first-to-last (runFault prover k form s) (runsIn form s) run-judged)))
+        (tells-nine (firstFive prover k limit form s) follows (λ at is. (at, first-five-meet prover k form s limit at is)) (λ is five. no-five prover k form s limit is (five .0) (five .1))))
 
-    pub found-tells : Tells (Acceptable prover k limit s) (ProvingCause prover k limit s) (foundOf prover k limit s)
+    pub found-tells : Tells (Acceptable prover k limit form s) (ProvingCause prover k limit form s) (foundOf prover k limit form s)
     unfolding foundOf
     found-tells = proving-tells (λ at. at)
 
@@ -148,19 +149,19 @@ module _ (prover : Prover) (k : ℕ) (s : List ℕ) where
           ((λ is. eqb-false request 0 (not-true _ is)), (λ some-number. ap not (ne-eqb request 0 some-number)))
           ((λ is. eqb-true request 0 (not-false _ is)), (λ none. ap not (eq-eqb request 0 none)))))
 
-      asked-named : {number at : ℕ} → InTurn AskingCause (Asked request size) (ProvingCause prover k limit s) number at → JobCause request prover k limit s size number at
+      asked-named : {number at : ℕ} → InTurn AskingCause (Asked request size) (ProvingCause prover k limit form s) number at → JobCause request prover k limit form s size number at
       asked-named (sooner (sooner (here out))) = cause.buffer-size out
       asked-named (sooner (later sized (here out))) = cause.number-zero sized out
       asked-named (later asked why) = cause.in-proving asked why
 
-      asked-meant : {number at : ℕ} → JobCause request prover k limit s size number at → InTurn AskingCause (Asked request size) (ProvingCause prover k limit s) number at
+      asked-meant : {number at : ℕ} → JobCause request prover k limit form s size number at → InTurn AskingCause (Asked request size) (ProvingCause prover k limit form s) number at
       asked-meant (cause.buffer-size out) = sooner (sooner (here out))
       asked-meant (cause.number-zero sized out) = sooner (later sized (here out))
       asked-meant (cause.in-proving asked why) = later asked why
 
-      pub job-tells : Tells (Asked request size × Acceptable prover k limit s) (JobCause request prover k limit s size) (jobOf request prover k limit s size)
+      pub job-tells : Tells (Asked request size × Acceptable prover k limit form s) (JobCause request prover k limit form s size) (jobOf request prover k limit form s size)
       unfolding jobOf
-      job-tells = tells-in-words Iff·rfl (λ _ _. (asked-named, asked-meant)) (by-unless asking-judged (proving-tells (reportAt request prover k s)))
+      job-tells = tells-in-words Iff·rfl (λ _ _. (asked-named, asked-meant)) (by-unless asking-judged (proving-tells (reportAt request prover k form s)))
 
 -- ---- the water draw
 

@@ -34,3 +34,5 @@ pub mod OwnFigures
 pub mod TwoAndEight
 pub mod Transmitters
 pub mod TransmitterFigures
+pub mod LongRuns
+pub mod InterpolatedFigures

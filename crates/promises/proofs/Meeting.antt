@@ -6,6 +6,7 @@ use Prim.Native.Nat.{ℕ, _+_, _≤_, _<_}
 use native.Mathlib.Omega.{arith}
 use lib.ListN.{length, getD}
 use Rattle.factors.specs.declared.Prover.{Prover}
+use Rattle.run.specs.declared.Form.{Form}
 use Rattle.group.specs.Repeatability.{firstGroup}
 use Rattle.group.specs.Listed.{listed}
 use Rattle.group.proofs.Listed.{listed-value, listed-length}
@@ -19,37 +20,37 @@ use Rattle.promises.specs.Proving.{FiveMeet}
 use Rattle.promises.specs.WaterDraw.{volumeAt, ThreeMeet}
 use Rattle.promises.proofs.Groups.{Least, first-least, some-found}
 
-module _ (prover : Prover) (k : ℕ) (s : List ℕ) where
-  pub factor-values : (i : ℕ) → i < length (factorsOf prover k s) → getD (factorsOf prover k s) i 0 ≡ factorAt prover k s i
+module _ (prover : Prover) (k : ℕ) (form : Form) (s : List ℕ) where
+  pub factor-values : (i : ℕ) → i < length (factorsOf prover k form s) → getD (factorsOf prover k form s) i 0 ≡ factorAt prover k form s i
   unfolding factorsOf
-  factor-values i h = listed-value (factorAt prover k s) (runsIn s) 0 i (omega (arith, listed-length (factorAt prover k s) (runsIn s) 0)) ∙ ap (factorAt prover k s) (omega arith)
+  factor-values i h = listed-value (factorAt prover k form s) (runsIn form s) 0 i (omega (arith, listed-length (factorAt prover k form s) (runsIn form s) 0)) ∙ ap (factorAt prover k form s) (omega arith)
 
-  factor-count : length (factorsOf prover k s) ≡ runsIn s
+  factor-count : length (factorsOf prover k form s) ≡ runsIn form s
   unfolding factorsOf
-  factor-count = listed-length (factorAt prover k s) (runsIn s) 0
+  factor-count = listed-length (factorAt prover k form s) (runsIn form s) 0
 
   -- the report's five are the factors of the five runs
-  pub five-listed : (at : ℕ) → at + 5 ≤ runsIn s → listOf (fiveAt (factorsOf prover k s) at) ≡ listed (factorAt prover k s) 5 at
+  pub five-listed : (at : ℕ) → at + 5 ≤ runsIn form s → listOf (fiveAt (factorsOf prover k form s) at) ≡ listed (factorAt prover k form s) 5 at
   unfolding listOf fiveAt listed
   five-listed at room =
       λ i. each at at (omega arith) refl i ∷ each (at + 1) (at + 1) (omega arith) refl i ∷ each (at + 2) (at + 1 + 1) (omega arith) (omega arith) i ∷ each (at + 3) (at + 1 + 1 + 1) (omega arith)
       (omega arith) i ∷ each (at + 4) (at + 1 + 1 + 1 + 1) (omega arith) (omega arith) i ∷ []
     where
-      each : (j m : ℕ) → j < runsIn s → j ≡ m → getD (factorsOf prover k s) j 0 ≡ factorAt prover k s m
-      each j m h same = factor-values j (omega (arith, factor-count)) ∙ ap (factorAt prover k s) same
+      each : (j m : ℕ) → j < runsIn form s → j ≡ m → getD (factorsOf prover k form s) j 0 ≡ factorAt prover k form s m
+      each j m h same = factor-values j (omega (arith, factor-count)) ∙ ap (factorAt prover k form s) same
 
   module _ (limit : ℕ) where
     -- where no group is found, no five meet the limit
-    pub no-five : firstFive prover k limit s ≡ none → (at : ℕ) → FiveMeet prover k limit s at → ⊥
+    pub no-five : firstFive prover k limit form s ≡ none → (at : ℕ) → FiveMeet prover k limit form s at → ⊥
     unfolding firstFive
-    no-five is at five = some-found (factorAt prover k s) (factorsOf prover k s) factor-values 5 limit at (omega (arith, five .room, factor-count)) (five .meet) is
+    no-five is at five = some-found (factorAt prover k form s) (factorsOf prover k form s) factor-values 5 limit at (omega (arith, five .room, factor-count)) (five .meet) is
 
     -- where one is, it is the first five that do
-    pub least-five : (at : ℕ) → firstFive prover k limit s ≡ some at → Least (factorAt prover k s) (factorsOf prover k s) factor-values 5 limit at
+    pub least-five : (at : ℕ) → firstFive prover k limit form s ≡ some at → Least (factorAt prover k form s) (factorsOf prover k form s) factor-values 5 limit at
     unfolding firstFive
-    least-five at is = first-least (factorAt prover k s) (factorsOf prover k s) factor-values 5 limit (first-found limit 5 (factorsOf prover k s) is)
+    least-five at is = first-least (factorAt prover k form s) (factorsOf prover k form s) factor-values 5 limit (first-found limit 5 (factorsOf prover k form s) is)
 
-    pub first-five-meet : (at : ℕ) → firstFive prover k limit s ≡ some at → FiveMeet prover k limit s at
+    pub first-five-meet : (at : ℕ) → firstFive prover k limit form s ≡ some at → FiveMeet prover k limit form s at
     first-five-meet at is = let least = least-five at is in record { room = omega (arith, least .room, factor-count); meet = least .meet }
 
 module _ (profile : Profile) (prover : Prover) (s : List ℕ) where

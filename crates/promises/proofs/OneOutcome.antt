@@ -6,6 +6,7 @@ use Rattle.group.proofs.Spreads.{spread-one}
 use Rattle.factors.proofs.Values.{told-one as factor-one}
 use Rattle.run.proofs.Laws.{told-one as worked-one}
 use Rattle.report.proofs.Laws.{told-one as report-one}
+use Rattle.moving.proofs.Laws.{told-one as moved-one}
 use Rattle.draw.proofs.Outcome.{fill-one, count-one, draw-one}
 use Rattle.ticket.proofs.Laws.{told-one as ticket-one}
 use Rattle.live.proofs.Answers.{told-one as live-one, panel-one}
@@ -50,6 +51,7 @@ one-outcome =
       ranges-is-sediment-one = (λ _ _. tt, λ _ _ _ _ _ _. same);
       ranges-is-gravity-one = (λ _ _. tt, λ _ _ _ _ _ _. same);
       ranges-are-entries-one = (λ _ _. tt, λ _ _ _ _ _ _. same);
+      ranges-are-moved-one = (λ _ _. tt, λ _ _ _ _ _ _. same);
       exact-product-one = (λ _ _. tt, λ _ _ _ _ _ _. same);
       exact-sum-one = (λ _ _. tt, λ _ _ _ _ _ _. same);
       exact-is-at-most-one = (λ _ _. tt, λ _ _ _ _ _ _. same);
@@ -72,10 +74,12 @@ one-outcome =
       octets-byte-at-one = (λ _ _. tt, λ _ _ _ _ _ _. same);
       octets-word-at-one = (λ _ _. tt, λ _ _ _ _ _ _. same);
       octets-long-at-one = (λ _ _. tt, λ _ _ _ _ _ _. same);
+      octets-quad-at-one = (λ _ _. tt, λ _ _ _ _ _ _. same);
       octets-signed-at-one = (λ _ _. tt, λ _ _ _ _ _ _. same);
       octets-are-zero-one = (λ _ _. tt, λ _ _ _ _ _ _. same);
       octets-word-bytes-one = (λ _ _. tt, λ _ _ _ _ _ _. same);
       octets-long-bytes-one = (λ _ _. tt, λ _ _ _ _ _ _. same);
+      octets-quad-bytes-one = (λ _ _. tt, λ _ _ _ _ _ _. same);
       octets-write-at-any = λ _ _. tt;
       octets-write-at-one = λ _ _ _ _ _ _. same;
       group-is-group-one = (λ _ _. tt, λ _ _ _ _ _ _. same);
@@ -85,13 +89,18 @@ one-outcome =
       report-write-one = (λ _ _. tt, λ _ _ r q _ _ p p′. report-one r q (same (p .0) (p′ .0)));
       report-write-left = λ _ _ _ _ _ _ p p′. same (p .1) (p′ .1);
       report-read-one = (λ _ _. tt, λ _ _ r q _ _ p p′. report-one r q (same p p′));
-      run-decode-one = (λ _ _. tt, λ _ _ _ _ _ _. same);
-      run-is-run-one = (λ _ _. tt, λ _ _ _ _ _ _. same);
+      run-records-size-one = (λ _ _. tt, λ _ _ _ _ _ _. same);
+      run-records-decode-one = (λ _ _. tt, λ _ _ _ _ _ _. same);
+      run-records-judge-record-one = (λ _ _. tt, λ _ _ r q _ _ p p′. verdict-one r q (same p p′));
       run-work-out-one = (λ _ _. tt, λ _ _ r q _ _ p p′. worked-one r q (same p p′));
       run-show-one = (λ _ _. tt, λ _ _ r q _ _ p p′. worked-one r q (same p p′));
       proving-prove-one = (λ _ _. tt, λ _ _ r q _ _ p p′. report-one r q (same (p .0) (p′ .0)));
       proving-prove-left = λ _ _ _ _ _ _ p p′. same (p .1) (p′ .1);
       proving-accept-one = (λ _ _. tt, λ _ _ _ _ _ _. same);
+      moving-forward-one = (λ _ _. tt, λ _ _ r q _ _ p p′. moved-one r q (same (p .0) (p′ .0)));
+      moving-forward-left = λ _ _ _ _ _ _ p p′. same (p .1) (p′ .1);
+      moving-back-one = (λ _ _. tt, λ _ _ r q _ _ p p′. moved-one r q (same (p .0) (p′ .0)));
+      moving-back-left = λ _ _ _ _ _ _ p p′. same (p .1) (p′ .1);
       draw-fill-one = (λ _ _. tt, λ _ _ r q _ _ p p′. fill-one r q (same p p′));
       draw-volumes-one = (λ _ _. tt, λ _ _ r q _ _ p p′ i. record { answer = count-one (r .answer) (q .answer) (same (p .0) (p′ .0)) i; volumes = same (p .1) (p′ .1) i });
       draw-draw-one = (λ _ _. tt, λ _ _ r q _ _ p p′. draw-one r q (same p p′));

@@ -27,16 +27,17 @@ use Rattle.factors.specs.Rounded.{cplAt, combinedAt}
 use Rattle.factors.specs.Answers.{cplOf}
 use Rattle.factors.specs.declared.Liquid.{Liquid}
 use Rattle.factors.specs.declared.Prover.{Prover}
-use Rattle.run.specs.Record.{runSize, runFrom, runAt, sideOk, runOk, unnamedOk}
+use Rattle.run.specs.Record.{sizeOf, fieldsFrom, runFrom, runAt, sideOk, runOk, unnamedOk}
+use Rattle.run.specs.declared.Form.the-variants.{Short}
 use Rattle.run.specs.Figures.{indicated, steelCts, steelCps, correctedBy, atProver, atMeter, figuresFrom, figuresOf}
-use Rattle.run.specs.Answers.{figuresFault}
+use Rattle.run.specs.Answers.{recordFault, figuresFault}
 use Rattle.run.specs.declared.Side.{Side}
 use Rattle.run.specs.declared.Run.{Run}
 use Rattle.run.specs.declared.Corrected.{Corrected}
 use Rattle.run.specs.declared.Figures.{Figures}
 use Rattle.report.specs.Judged.{reportOf}
 use Rattle.report.specs.declared.Report.{Report}
-use Rattle.proving.specs.Judging.{runsIn, recordFault, runFault, settingsFault, inputFault}
+use Rattle.proving.specs.Judging.{runsIn, lentFault, runFault, settingsFault, inputFault}
 use Rattle.proving.specs.Job.{factorAt, factorsOf, firstFive, foundOf, fiveAt, reportAt, jobOf, acceptedBy, acceptedOf}
 use Rattle.ticket.specs.Ranges.{ticketOk}
 use Rattle.ticket.specs.Formulas.{indicated as measured, factor, gross, net}
@@ -109,27 +110,27 @@ word-zero s at first second = omega (arith, word-is s at, first, second)
 
 -- zeros from byte 20 on are no Pe and zeros from byte 24 on, and the other way round
 module _ (s : List ℕ) (i : ℕ) where
-  pub none-held : unnamedOk01 s i ≡ true → HoldsNone (runAt runSize s i) × (unnamedOk runSize s i ≡ true)
-  unfolding unnamedOk01 unnamedOk runAt runFrom
+  pub none-held : unnamedOk01 s i ≡ true → HoldsNone (runAt Short s i) × (unnamedOk Short s i ≡ true)
+  unfolding unnamedOk01 unnamedOk runAt runFrom fieldsFrom
   none-held zeros =
       let byte : (k : ℕ) → 32 * i + 20 ≤ k → k < 32 * i + 32 → getD s k 0 ≡ 0 = zero-each s (32 * i + 20) (32 * i + 32) zeros in (
-        record { prover = word-zero s (32 * i + 20) (byte _ (omega arith) (omega arith)) (byte _ (omega arith) (omega arith)); meter = word-zero s (32 * i + 22) (byte _ (omega arith) (omega arith)) (byte _ (omega arith) (omega arith)) },
-        zero-all s (32 * i + 24) (32 * i + 32) (λ k low high. byte k (omega arith) high),
+        record { prover = word-zero s (32 * i + 0 + 20) (byte _ (omega arith) (omega arith)) (byte _ (omega arith) (omega arith)); meter = word-zero s (32 * i + 0 + 22) (byte _ (omega arith) (omega arith)) (byte _ (omega arith) (omega arith)) },
+        zero-all s (32 * i + 0 + 24) (32 * i + 32) (λ k low high. byte k (omega arith) high),
       )
 
-  zeros-from-20 : HoldsNone (runAt runSize s i) → unnamedOk runSize s i ≡ true → unnamedOk01 s i ≡ true
-  unfolding unnamedOk01 unnamedOk runAt runFrom
+  zeros-from-20 : HoldsNone (runAt Short s i) → unnamedOk Short s i ≡ true → unnamedOk01 s i ≡ true
+  unfolding unnamedOk01 unnamedOk runAt runFrom fieldsFrom
   zeros-from-20 none zeros =
       zero-all s (32 * i + 20) (32 * i + 32) (λ k low high.
-      by-cases (decLt k (32 * i + 22)) (λ first. in-word s (32 * i + 20) k (none .prover) low (omega arith)) (λ later.
-      by-cases (decLt k (32 * i + 24)) (λ second. in-word s (32 * i + 22) k (none .meter) (omega arith) (omega arith)) (λ last.
-      zero-each s (32 * i + 24) (32 * i + 32) zeros k (omega arith) high)))
+      by-cases (decLt k (32 * i + 22)) (λ first. in-word s (32 * i + 0 + 20) k (none .prover) (omega arith) (omega arith)) (λ later.
+      by-cases (decLt k (32 * i + 24)) (λ second. in-word s (32 * i + 0 + 22) k (none .meter) (omega arith) (omega arith)) (λ last.
+      zero-each s (32 * i + 0 + 24) (32 * i + 32) zeros k (omega arith) high)))
 
-  same-record : HoldsNone (runAt runSize s i) → recordFault s i ≡ recordFault01 s i
+  same-record : HoldsNone (runAt Short s i) → lentFault Short s i ≡ recordFault01 s i
   unfolding recordFault recordFault01
   same-record none =
-      let unnamed : unnamedOk runSize s i ≡ unnamedOk01 s i = alike (unnamedOk runSize s i) (unnamedOk01 s i) (zeros-from-20 none) (λ zeros. none-held zeros .1) in
-      λ t. orElse (demandAt (run-in-range (runAt runSize s i) none t) 5 (i + 1)) (demandAt (unnamed t) 2 (i + 1))
+      let unnamed : unnamedOk Short s i ≡ unnamedOk01 s i = alike (unnamedOk Short s i) (unnamedOk01 s i) (zeros-from-20 none) (λ zeros. none-held zeros .1) in
+      λ t. orElse (demandAt (run-in-range (runAt Short s i) none t) 5 (i + 1)) (demandAt (unnamed t) 2 (i + 1))
     where
       -- tests that hold together
       alike : (a b : Bool) → (a ≡ true → b ≡ true) → (b ≡ true → a ≡ true) → a ≡ b
@@ -139,47 +140,47 @@ module _ (s : List ℕ) (i : ℕ) where
 
 -- ---- a job
 
-module _ (prover : Prover) (k limit : ℕ) (s : List ℕ) (none : Every (runsIn s) (λ i. HoldsNone (runAt runSize s i))) where
-  same-input : inputFault prover k limit s ≡ inputFault01 prover k limit s
+module _ (prover : Prover) (k limit : ℕ) (s : List ℕ) (none : Every (runsIn Short s) (λ i. HoldsNone (runAt Short s i))) where
+  same-input : inputFault prover k limit Short s ≡ inputFault01 prover k limit s
   unfolding inputFault inputFault01 runFault runFault01
   same-input =
-      let held : (i : ℕ) → i < 0 + runsIn s → HoldsNone (runAt runSize s i) = λ i h. none i (omega (arith, h)) in
-      let records : scan (recordFault s) (runsIn s) 0 ≡ scan (recordFault01 s) (runsIn s) 0 = same faults (recordFault s) (recordFault01 s) (runsIn s) 0 (λ i l h. same-record s i (held i h)) in
-      let runs : scan (runFault prover k s) (runsIn s) 0 ≡ scan (runFault01 prover k s) (runsIn s) 0 =
-      same faults (runFault prover k s) (runFault01 prover k s) (runsIn s) 0 (λ i l h. ap (λ (f : Figures). figuresFault f (i + 1)) (same-figures (runAt runSize s i) (held i h) prover k)) in
-      λ t. orElse (settingsFault prover k limit (length s)) (orElse (records t) (runs t))
+      let held : (i : ℕ) → i < 0 + runsIn Short s → HoldsNone (runAt Short s i) = λ i h. none i (omega (arith, h)) in
+      let records : scan (lentFault Short s) (runsIn Short s) 0 ≡ scan (recordFault01 s) (runsIn Short s) 0 = same faults (lentFault Short s) (recordFault01 s) (runsIn Short s) 0 (λ i l h. same-record s i (held i h)) in
+      let runs : scan (runFault prover k Short s) (runsIn Short s) 0 ≡ scan (runFault01 prover k s) (runsIn Short s) 0 =
+      same faults (runFault prover k Short s) (runFault01 prover k s) (runsIn Short s) 0 (λ i l h. ap (λ (f : Figures). figuresFault f (i + 1)) (same-figures (runAt Short s i) (held i h) prover k)) in
+      λ t. orElse (settingsFault prover k limit Short (length s)) (orElse (records t) (runs t))
 
-  same-factors : factorsOf prover k s ≡ factors01 prover k s
+  same-factors : factorsOf prover k Short s ≡ factors01 prover k s
   unfolding factorsOf factors01 factorAt
   same-factors =
-      let f = factorAt prover k s in
-      let g : ℕ → ℕ = λ i. figures01 prover k (runAt runSize s i) .factor in
-      let few : (i : ℕ) → i < length (listed f (runsIn s) 0) → i < runsIn s = λ i h. omega (arith, h, listed-length f (runsIn s) 0) in
-      ext-getD 0 (listed f (runsIn s) 0) (listed g (runsIn s) 0) (listed-length f (runsIn s) 0 ∙ sym (listed-length g (runsIn s) 0)) (λ i h.
-      listed-value f (runsIn s) 0 i (few i h) ∙ ap f (omega arith) ∙ ap (λ (x : Figures). x .factor) (same-figures (runAt runSize s i) (none i (few i h)) prover k) ∙ sym (listed-value g (runsIn s) 0 i (few i h) ∙ ap g (omega arith)))
+      let f = factorAt prover k Short s in
+      let g : ℕ → ℕ = λ i. figures01 prover k (runAt Short s i) .factor in
+      let few : (i : ℕ) → i < length (listed f (runsIn Short s) 0) → i < runsIn Short s = λ i h. omega (arith, h, listed-length f (runsIn Short s) 0) in
+      ext-getD 0 (listed f (runsIn Short s) 0) (listed g (runsIn Short s) 0) (listed-length f (runsIn Short s) 0 ∙ sym (listed-length g (runsIn Short s) 0)) (λ i h.
+      listed-value f (runsIn Short s) 0 i (few i h) ∙ ap f (omega arith) ∙ ap (λ (x : Figures). x .factor) (same-figures (runAt Short s i) (none i (few i h)) prover k) ∙ sym (listed-value g (runsIn Short s) 0 i (few i h) ∙ ap g (omega arith)))
 
-  pub job-answered : (request size : ℕ) → jobOf request prover k limit s size ≡ job01 request prover k limit s size
+  pub job-answered : (request size : ℕ) → jobOf request prover k limit Short s size ≡ job01 request prover k limit s size
   unfolding jobOf job01 found01 firstFive reportAt
   job-answered request size = λ t.
       unless (orElse (demand (eqb size 32) 14) (demand (not (eqb request 0)) 22))
       (unless (same-input t)
-      (nineUnless (firstGroup limit 5 (same-factors t)) (λ at. reportOf request (runsIn s) (at + 1) (fiveAt (same-factors t) at))))
+      (nineUnless (firstGroup limit 5 (same-factors t)) (λ at. reportOf request (runsIn Short s) (at + 1) (fiveAt (same-factors t) at))))
 
-  pub runs-answered : acceptedOf prover k limit s ≡ accepted01 prover k limit s
+  pub runs-answered : acceptedOf prover k limit Short s ≡ accepted01 prover k limit s
   unfolding acceptedOf accepted01 foundOf found01 firstFive
-  runs-answered = λ t. acceptedBy runSize (unless (same-input t) (nineUnless (firstGroup limit 5 (same-factors t)) (λ at. at))) s
+  runs-answered = λ t. acceptedBy (sizeOf Short) (unless (same-input t) (nineUnless (firstGroup limit 5 (same-factors t)) (λ at. at))) s
 
 -- what 01 accepts holds no Pe in any record
-pub accepted-so : (request : ℕ) (prover : Prover) (k limit : ℕ) (s : List ℕ) (size : ℕ) {report : Report} → job01 request prover k limit s size ≡ done report → jobOf request prover k limit s size ≡ done report
+pub accepted-so : (request : ℕ) (prover : Prover) (k limit : ℕ) (s : List ℕ) (size : ℕ) {report : Report} → job01 request prover k limit s size ≡ done report → jobOf request prover k limit Short s size ≡ done report
 unfolding job01 found01 inputFault01 recordFault01
 accepted-so request prover k limit s size is =
     let asked : Fault = orElse (demand (eqb size 32) 14) (demand (not (eqb request 0)) 22) in
-    let five = nineUnless (firstGroup limit 5 (factors01 prover k s)) (λ at. reportOf request (runsIn s) (at + 1) (fiveAt (factors01 prover k s) at)) in
+    let five = nineUnless (firstGroup limit 5 (factors01 prover k s)) (λ at. reportOf request (runsIn Short s) (at + 1) (fiveAt (factors01 prover k s) at)) in
     let input = unless-done (inputFault01 prover k limit s) five (unless-done asked (unless (inputFault01 prover k limit s) five) is .1) .0 in
-    let records = orElse-fine-first (scan (recordFault01 s) (runsIn s) 0) _ (orElse-fine-next (settingsFault prover k limit (length s)) _ input) in
-    let zeros : (i : ℕ) → i < runsIn s → unnamedOk01 s i ≡ true = λ i h.
+    let records = orElse-fine-first (scan (recordFault01 s) (runsIn Short s) 0) _ (orElse-fine-next (settingsFault prover k limit Short (length s)) _ input) in
+    let zeros : (i : ℕ) → i < runsIn Short s → unnamedOk01 s i ≡ true = λ i h.
     demandAt-was (unnamedOk01 s i) 2 (i + 1)
-    (orElse-fine-next (demandAt (runOk01 (runAt runSize s i)) 5 (i + 1)) _ (empty faults (recordFault01 s) (runsIn s) 0 records i (omega arith) (omega (arith, h)))) in
+    (orElse-fine-next (demandAt (runOk01 (runAt Short s i)) 5 (i + 1)) _ (empty faults (recordFault01 s) (runsIn Short s) 0 records i (omega arith) (omega (arith, h)))) in
     job-answered prover k limit s (λ i h. none-held s i (zeros i h) .0) request size ∙ is
 
 -- ---- a ticket

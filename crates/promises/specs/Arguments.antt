@@ -16,3 +16,6 @@ fifth a = a .1 .1 .1 .1 .0
 
 abbrev pub sixth : {A B C D E F G : Type 0} → A × (B × (C × (D × (E × (F × G))))) → F
 sixth a = a .1 .1 .1 .1 .1 .0
+
+abbrev pub seventh : {A B C D E F G H : Type 0} → A × (B × (C × (D × (E × (F × (G × H)))))) → G
+seventh a = a .1 .1 .1 .1 .1 .1 .0

@@ -1,8 +1,8 @@
 -- Demand 1, of the entries' contracts themselves: 'Hand any entry point any bytes and numbers, and it ends with either its result or one
 -- number from the table ..' and 'A refusal writes nothing into a lent buffer and hands the book of waiting requests back unchanged.'
 -- `f.Post κ a r x` is what the function f ensures of any arguments a at entry, the answer r and the arguments x at exit. The arguments of
--- `prove` are request, prover, K, limit, records and buffer; of `accept` prover, K, limit and records; of `write` number, runs, first run,
--- factors and buffer; of `work_out` prover, K, run and record; of `volumes` and `draw` profile, prover and records; of `look_up`
+-- `prove` are request, prover, K, limit, form, records and buffer; of `accept` prover, K, limit, form and records; of `write` number, runs, first run,
+-- factors and buffer; of `work_out` prover, K, run and record; of `forward` and `back` records and buffer; of `volumes` and `draw` profile, prover and records; of `look_up`
 -- temperature, gravity and table.
 use mathlib.Core.Path.{_≡_}
 use mathlib.Core.List.{[]}
@@ -10,7 +10,10 @@ use Prim.Native.Nat.{ℕ}
 use Rattle.refusals.specs.Told.{refused}
 use Rattle.octets.specs.Records.{recordsIn}
 use Rattle.factors.specs.Answers.{told as toldFactor}
+use Rattle.run.specs.Record.{sizeOf}
 use Rattle.run.specs.Answers.{told as toldRun}
+use Rattle.run.specs.declared.Form.the-variants.{Short, Long}
+use Rattle.moving.specs.Answers.{told as toldMoved}
 use Rattle.report.specs.Judged.{told as toldReport}
 use Rattle.proving.specs.Judging.{runsIn}
 use Rattle.proving.specs.Job.{foundOf}
@@ -29,6 +32,8 @@ use Rattle.report.proofs.write.Reads as write
 use Rattle.report.proofs.read.Reads as read
 use Rattle.proving.proofs.prove.Reads as prove
 use Rattle.proving.proofs.accept.Reads as accept
+use Rattle.moving.proofs.forward.Reads as forward
+use Rattle.moving.proofs.back.Reads as back
 use Rattle.draw.proofs.fill.Reads as fill
 use Rattle.draw.proofs.volumes.Reads as volumes
 use Rattle.draw.proofs.draw.Reads as draw
@@ -43,8 +48,8 @@ use Rattle.book.proofs.withdraw.Reads as withdraw
 use Rattle.book.proofs.take.Reads as take
 use Rattle.book.proofs.set_figures.Reads as set-figures
 use Rattle.book.proofs.tell_commons.Reads as tell-commons
-use Rattle.promises.specs.Numbers.{settingNumbers, liquidNumbers, jobNumbers, recordNumbers, runNumbers, drawNumbers, passesNumbers, fillNumbers, ticketNumbers, liveNumbers, channelNumbers, panelNumbers, lookUpNumbers, requestNumbers, withdrawalNumbers, takeNumbers, agreementNumbers, commonsNumbers, readNumbers, writeNumbers}
-use Rattle.promises.specs.Arguments.{first, second, third, fourth, fifth, sixth}
+use Rattle.promises.specs.Numbers.{settingNumbers, liquidNumbers, jobNumbers, recordNumbers, runNumbers, forwardNumbers, backNumbers, drawNumbers, passesNumbers, fillNumbers, ticketNumbers, liveNumbers, channelNumbers, panelNumbers, lookUpNumbers, requestNumbers, withdrawalNumbers, takeNumbers, agreementNumbers, commonsNumbers, readNumbers, writeNumbers}
+use Rattle.promises.specs.Arguments.{first, second, third, fourth, fifth, sixth, seventh}
 use Rattle.promises.specs.Ending.{Ends}
 
 pub record Entries : Type 0 where
@@ -55,10 +60,15 @@ pub record Entries : Type 0 where
   pub work-out-entry : (κ : _) (a : _) (r : _) (x : _) → work-out.Post κ a r x → Ends runNumbers (fourth a) (fourth a) (toldRun r)
   pub show-entry : (κ : _) (a : _) (r : _) (x : _) → show.Post κ a r x → Ends recordNumbers 1 1 (toldRun r)
   -- the job: records 1 to the count of those lent; a refusal leaves the buffer's bytes
-  pub prove-entry : (κ : _) (a : _) (r : _) (x : _) → prove.Post κ a r x → Ends jobNumbers 1 (runsIn (fifth a .now)) (toldReport r)
-  pub prove-leaves : (κ : _) (a : _) (r : _) (x : _) {number at : ℕ} → prove.Post κ a r x → toldReport r ≡ refused number at → sixth x .now ≡ sixth a .now
+  pub prove-entry : (κ : _) (a : _) (r : _) (x : _) → prove.Post κ a r x → Ends jobNumbers 1 (runsIn (fifth a) (sixth a .now)) (toldReport r)
+  pub prove-leaves : (κ : _) (a : _) (r : _) (x : _) {number at : ℕ} → prove.Post κ a r x → toldReport r ≡ refused number at → seventh x .now ≡ seventh a .now
   -- '(The entry that hands run records back hands back none when it refuses, and no number.)'
-  pub accept-hands-none : (κ : _) (a : _) (r : _) (x : _) {number at : ℕ} → accept.Post κ a r x → foundOf (first a) (second a) (third a) (fourth a .now) ≡ refused number at → r .now ≡ []
+  pub accept-hands-none : (κ : _) (a : _) (r : _) (x : _) {number at : ℕ} → accept.Post κ a r x → foundOf (first a) (second a) (third a) (fourth a) (fifth a .now) ≡ refused number at → r .now ≡ []
+  -- records moved, from 1 to the count of those lent; a refusal leaves the buffer's bytes
+  pub forward-entry : (κ : _) (a : _) (r : _) (x : _) → forward.Post κ a r x → Ends forwardNumbers 1 (recordsIn (sizeOf Short) (first a .now)) (toldMoved r)
+  pub forward-leaves : (κ : _) (a : _) (r : _) (x : _) {number at : ℕ} → forward.Post κ a r x → toldMoved r ≡ refused number at → second x .now ≡ second a .now
+  pub back-entry : (κ : _) (a : _) (r : _) (x : _) → back.Post κ a r x → Ends backNumbers 1 (recordsIn (sizeOf Long) (first a .now)) (toldMoved r)
+  pub back-leaves : (κ : _) (a : _) (r : _) (x : _) {number at : ℕ} → back.Post κ a r x → toldMoved r ≡ refused number at → second x .now ≡ second a .now
   pub write-entry : (κ : _) (a : _) (r : _) (x : _) → write.Post κ a r x → Ends writeNumbers 0 0 (toldReport r)
   pub write-leaves : (κ : _) (a : _) (r : _) (x : _) {number at : ℕ} → write.Post κ a r x → toldReport r ≡ refused number at → fifth x .now ≡ fifth a .now
   pub read-entry : (κ : _) (a : _) (r : _) (x : _) → read.Post κ a r x → Ends readNumbers 0 0 (toldReport r)

@@ -9,11 +9,13 @@ use Rattle.exact.specs.Quotient.{quotientOf}
 use Rattle.octets.specs.Records.{recordsIn, zerosAfter}
 use Rattle.factors.specs.Answers.{ctsOf, cpsOf, cplOf}
 use Rattle.factors.specs.Metal.{metalBy}
-use Rattle.run.specs.Record.{runSize}
+use Rattle.run.specs.Record.{sizeOf}
+use Rattle.run.specs.declared.Form.the-variants.{Short, Long}
 use Rattle.run.specs.Answers.{shownOf}
 use Rattle.report.specs.Judged.{writeOf, readOf}
 use Rattle.proving.specs.Judging.{runsIn}
 use Rattle.proving.specs.Job.{jobOf, foundOf, acceptedOf}
+use Rattle.moving.specs.Judging.{moveOf}
 use Rattle.draw.specs.Profile.{volumesOf}
 use Rattle.draw.specs.Answers.{fillOf, countOf, drawOf}
 use Rattle.draw.specs.declared.Profile.the-variants.{Unidirectional, Bidirectional}
@@ -41,6 +43,11 @@ use Rattle.api.proofs.quotients.endakuro_rounded_ratio.Reads as ratio
 use Rattle.api.proofs.jobs.endakuro_prove.Reads as prove
 use Rattle.api.proofs.jobs.endakuro_accept.Reads as accept
 use Rattle.api.proofs.jobs.endakuro_run.Reads as a-run
+use Rattle.api.proofs.jobs.endakuro_prove_long.Reads as prove-long
+use Rattle.api.proofs.jobs.endakuro_accept_long.Reads as accept-long
+use Rattle.api.proofs.jobs.endakuro_run_long.Reads as a-long-run
+use Rattle.api.proofs.moves.endakuro_forward.Reads as forward
+use Rattle.api.proofs.moves.endakuro_back.Reads as back
 use Rattle.api.proofs.reports.endakuro_write.Reads as write
 use Rattle.api.proofs.reports.endakuro_read.Reads as read
 use Rattle.api.proofs.water.endakuro_fill.Reads as fill
@@ -55,9 +62,9 @@ use Rattle.api.proofs.panel.endakuro_panel_temperature.Reads as panel-temperatu
 use Rattle.api.proofs.panel.endakuro_panel_pressure.Reads as panel-pressure
 use Rattle.api.proofs.lookups.endakuro_look_up.Reads as look-up
 use Rattle.api.proofs.books.endakuro_empty.Reads as empty
-use Rattle.promises.specs.Numbers.{settingNumbers, liquidNumbers, jobNumbers, recordNumbers, drawNumbers, passesNumbers, fillNumbers, ticketNumbers, liveNumbers, channelNumbers, panelNumbers, lookUpNumbers, requestNumbers, withdrawalNumbers, takeNumbers, agreementNumbers, commonsNumbers, readNumbers, writeNumbers}
+use Rattle.promises.specs.Numbers.{settingNumbers, liquidNumbers, jobNumbers, recordNumbers, forwardNumbers, backNumbers, drawNumbers, passesNumbers, fillNumbers, ticketNumbers, liveNumbers, channelNumbers, panelNumbers, lookUpNumbers, requestNumbers, withdrawalNumbers, takeNumbers, agreementNumbers, commonsNumbers, readNumbers, writeNumbers}
 use Rattle.promises.specs.Arguments.{first, second, third, fourth, fifth, sixth}
-use Rattle.promises.specs.FlatEnding.{FlatEnds, LeavesAsFound, byKind, factorIn, reportIn, runIn, fillIn, passesIn, baseIn, volumesIn, readingIn, shownIn, entryIn, changeIn, handoutIn, commonsIn}
+use Rattle.promises.specs.FlatEnding.{FlatEnds, LeavesAsFound, byKind, factorIn, reportIn, runIn, fillIn, passesIn, baseIn, volumesIn, readingIn, shownIn, entryIn, movedIn, changeIn, handoutIn, commonsIn}
 use Rattle.promises.specs.InPlaceC.{Requests, Withdraws, Takes, Sets, Shares}
 
 pub record EntriesC : Type 0 where
@@ -69,13 +76,27 @@ pub record EntriesC : Type 0 where
   pub cpl-six-entry : (κ : _) (a : _) (r : _) (x : _) → cpl-six.Post κ a r x → FlatEnds liquidNumbers 0 0 0 (factorIn r) (cplOf 6 (liquidBy (first a) (second a) (third a)))
   -- the job: records 1 to the count of those lent; a refusal leaves the buffer's bytes
   pub prove-entry : (κ : _) (a : _) (r : _) (x : _) → prove.Post κ a r x
-      → FlatEnds jobNumbers 1 (runsIn (fifth a .now)) noReport (reportIn r) (jobOf (first a) (proverBy (second a)) (third a) (fourth a) (fifth a .now) (length (sixth a .now)))
+      → FlatEnds jobNumbers 1 (runsIn Short (fifth a .now)) noReport (reportIn r) (jobOf (first a) (proverBy (second a)) (third a) (fourth a) Short (fifth a .now) (length (sixth a .now)))
   pub prove-leaves : (κ : _) (a : _) (r : _) (x : _) → prove.Post κ a r x → LeavesAsFound (reportIn r) (sixth x .now) (sixth a .now)
   -- '(The entry that hands run records back hands back none when it refuses, and no number.)'
-  pub accept-hands-none : (κ : _) (a : _) (r : _) (x : _) {number at : ℕ} → accept.Post κ a r x → foundOf (proverBy (first a)) (second a) (third a) (fourth a .now) ≡ refused number at → (r .start ≡ 0) × (r .length ≡ 0)
-  pub accept-hands-five : (κ : _) (a : _) (r : _) (x : _) {place : ℕ} → accept.Post κ a r x → foundOf (proverBy (first a)) (second a) (third a) (fourth a .now) ≡ done place → (r .start ≡ runSize * place) × (r .length ≡ 5 * runSize)
-  pub accept-hands-the-runs : (κ : _) (a : _) (r : _) (x : _) → accept.Post κ a r x → take (r .length) (drop (r .start) (fourth a .now)) ≡ acceptedOf (proverBy (first a)) (second a) (third a) (fourth a .now)
-  pub run-entry : (κ : _) (a : _) (r : _) (x : _) → a-run.Post κ a r x → FlatEnds recordNumbers 1 1 noFigures (runIn r) (shownOf (proverBy (first a)) (second a) (third a .now))
+  pub accept-hands-none : (κ : _) (a : _) (r : _) (x : _) {number at : ℕ} → accept.Post κ a r x → foundOf (proverBy (first a)) (second a) (third a) Short (fourth a .now) ≡ refused number at → (r .start ≡ 0) × (r .length ≡ 0)
+  pub accept-hands-five : (κ : _) (a : _) (r : _) (x : _) {place : ℕ} → accept.Post κ a r x → foundOf (proverBy (first a)) (second a) (third a) Short (fourth a .now) ≡ done place → (r .start ≡ sizeOf Short * place) × (r .length ≡ 5 * sizeOf Short)
+  pub accept-hands-the-runs : (κ : _) (a : _) (r : _) (x : _) → accept.Post κ a r x → take (r .length) (drop (r .start) (fourth a .now)) ≡ acceptedOf (proverBy (first a)) (second a) (third a) Short (fourth a .now)
+  pub run-entry : (κ : _) (a : _) (r : _) (x : _) → a-run.Post κ a r x → FlatEnds recordNumbers 1 1 noFigures (runIn r) (shownOf (proverBy (first a)) (second a) Short (third a .now))
+  -- the same of long records
+  pub prove-long-entry : (κ : _) (a : _) (r : _) (x : _) → prove-long.Post κ a r x
+      → FlatEnds jobNumbers 1 (runsIn Long (fifth a .now)) noReport (reportIn r) (jobOf (first a) (proverBy (second a)) (third a) (fourth a) Long (fifth a .now) (length (sixth a .now)))
+  pub prove-long-leaves : (κ : _) (a : _) (r : _) (x : _) → prove-long.Post κ a r x → LeavesAsFound (reportIn r) (sixth x .now) (sixth a .now)
+  pub accept-long-hands-none : (κ : _) (a : _) (r : _) (x : _) {number at : ℕ} → accept-long.Post κ a r x → foundOf (proverBy (first a)) (second a) (third a) Long (fourth a .now) ≡ refused number at → (r .start ≡ 0) × (r .length ≡ 0)
+  pub accept-long-hands-five : (κ : _) (a : _) (r : _) (x : _) {place : ℕ} → accept-long.Post κ a r x
+      → foundOf (proverBy (first a)) (second a) (third a) Long (fourth a .now) ≡ done place → (r .start ≡ sizeOf Long * place) × (r .length ≡ 5 * sizeOf Long)
+  pub accept-long-hands-the-runs : (κ : _) (a : _) (r : _) (x : _) → accept-long.Post κ a r x → take (r .length) (drop (r .start) (fourth a .now)) ≡ acceptedOf (proverBy (first a)) (second a) (third a) Long (fourth a .now)
+  pub run-long-entry : (κ : _) (a : _) (r : _) (x : _) → a-long-run.Post κ a r x → FlatEnds recordNumbers 1 1 noFigures (runIn r) (shownOf (proverBy (first a)) (second a) Long (third a .now))
+  -- records moved; a refusal leaves the buffer's bytes
+  pub forward-entry : (κ : _) (a : _) (r : _) (x : _) → forward.Post κ a r x → FlatEnds forwardNumbers 1 (recordsIn (sizeOf Short) (first a .now)) 0 (movedIn r) (moveOf Short (first a .now) (length (second a .now)))
+  pub forward-leaves : (κ : _) (a : _) (r : _) (x : _) → forward.Post κ a r x → LeavesAsFound (movedIn r) (second x .now) (second a .now)
+  pub back-entry : (κ : _) (a : _) (r : _) (x : _) → back.Post κ a r x → FlatEnds backNumbers 1 (recordsIn (sizeOf Long) (first a .now)) 0 (movedIn r) (moveOf Long (first a .now) (length (second a .now)))
+  pub back-leaves : (κ : _) (a : _) (r : _) (x : _) → back.Post κ a r x → LeavesAsFound (movedIn r) (second x .now) (second a .now)
   pub write-entry : (κ : _) (a : _) (r : _) (x : _) → write.Post κ a r x → FlatEnds writeNumbers 0 0 noReport (reportIn r) (writeOf (length (fifth a .now)) (first a) (second a) (third a) (factorsBy (fourth a)))
   pub write-leaves : (κ : _) (a : _) (r : _) (x : _) → write.Post κ a r x → LeavesAsFound (reportIn r) (fifth x .now) (fifth a .now)
   pub read-entry : (κ : _) (a : _) (r : _) (x : _) → read.Post κ a r x → FlatEnds readNumbers 0 0 noReport (reportIn r) (readOf (first a .now))

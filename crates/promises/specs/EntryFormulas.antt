@@ -14,7 +14,7 @@ use Rattle.factors.specs.Fractions.{cts, cps, cpl, combined}
 use Rattle.factors.specs.Places.{digits}
 use Rattle.factors.specs.Answers.{told as toldFactor}
 use Rattle.factors.specs.declared.Combined.the-variants.{Value as Held}
-use Rattle.run.specs.Record.{runSize, runAt}
+use Rattle.run.specs.Record.{runAt}
 use Rattle.run.specs.Figures.{figuresOf}
 use Rattle.run.specs.Answers.{told as toldRun}
 use Rattle.run.specs.declared.Figures.{Figures}
@@ -41,7 +41,7 @@ use Rattle.proving.proofs.prove.Reads as prove
 use Rattle.draw.proofs.fill.Reads as fill
 use Rattle.draw.proofs.draw.Reads as draw
 use Rattle.ticket.proofs.work_out.Reads as ticket
-use Rattle.promises.specs.Arguments.{first, second, third, fifth}
+use Rattle.promises.specs.Arguments.{first, second, third, fifth, sixth}
 use Rattle.promises.specs.Records.{Every}
 use Rattle.promises.specs.WaterDraw.{volumeAt}
 use Rattle.promises.specs.Formulas.{RoundedOnce, RoundedTo, RunRounded, FillRounded, PassRounded, PassesCounted, RoundTripsCounted, TicketRounded}
@@ -59,7 +59,7 @@ pub record EntryFormulas : Type 0 where
   pub run-of-entry : (κ : _) (a : _) (r : _) (x : _) {f : Figures} → work-out.Post κ a r x → toldRun r ≡ done f → RunRounded (first a) (second a) (third a) f
   -- every run of an accepted job; and 'The job's factor is their mean, rounded.'
   pub runs-of-job : (κ : _) (a : _) (r : _) (x : _) (report : Report) → prove.Post κ a r x → r ≡ Fields report
-      → Every (runsIn (fifth a .now)) (λ i. RunRounded (second a) (third a) (runAt runSize (fifth a .now) i) (figuresOf (second a) (third a) (runAt runSize (fifth a .now) i)))
+      → Every (runsIn (fifth a) (sixth a .now)) (λ i. RunRounded (second a) (third a) (runAt (fifth a) (sixth a .now) i) (figuresOf (second a) (third a) (runAt (fifth a) (sixth a .now) i)))
   pub factor-of-job : (κ : _) (a : _) (r : _) (x : _) (report : Report) → prove.Post κ a r x → r ≡ Fields report → RoundedOnce (sumOf (listOf (report .factors))) 5 (report .factor)
   pub fill-of-entry : (κ : _) (a : _) (r : _) (x : _) {f : FillFigures} → fill.Post κ a r x → toldFill r ≡ done f → FillRounded (first a) (second a .now) 0 f
   -- every fill and every pass of an accepted draw; 'the base volume is their mean, rounded', and 'the same in barrels (÷ 9702, 4 places)'

@@ -9,6 +9,7 @@ use Prim.Native.Nat.{ℕ}
 use lib.ListN.{length}
 use Rattle.refusals.specs.Told.{refused}
 use Rattle.factors.specs.declared.Prover.{Prover}
+use Rattle.run.specs.declared.Form.{Form}
 use Rattle.report.specs.Judged.{told as toldReport}
 use Rattle.draw.specs.Answers.{toldCount, toldDraw}
 use Rattle.draw.specs.declared.Profile.{Profile}
@@ -16,7 +17,7 @@ use Rattle.proving.proofs.prove.Reads as prove
 use Rattle.proving.proofs.accept.Reads as accept
 use Rattle.draw.proofs.volumes.Reads as volumes
 use Rattle.draw.proofs.draw.Reads as draw
-use Rattle.promises.specs.Arguments.{first, second, third, fourth, fifth, sixth}
+use Rattle.promises.specs.Arguments.{first, second, third, fourth, fifth, sixth, seventh}
 use Rattle.promises.specs.Proving.{Asked, Acceptable}
 use Rattle.promises.specs.WaterDraw as water
 use Rattle.promises.specs.Causes.{ProvingCause, JobCause, PassesCause, DrawCause}
@@ -28,16 +29,16 @@ pub record OneCause (Accepted : Type 0) (Cause : ℕ → ℕ → Type 0) : Type 
   pub no-other : {number at number′ at′ : ℕ} → Cause number at → Cause number′ at′ → (number ≡ number′) × (at ≡ at′)
 
 pub record ExactCauses : Type 0 where
-  pub one-of-proving : (prover : Prover) (k limit : ℕ) (s : List ℕ) → OneCause (Acceptable prover k limit s) (ProvingCause prover k limit s)
-  pub one-of-job : (request : ℕ) (prover : Prover) (k limit : ℕ) (s : List ℕ) (size : ℕ)
-      → OneCause (Asked request size × Acceptable prover k limit s) (JobCause request prover k limit s size)
+  pub one-of-proving : (prover : Prover) (k limit : ℕ) (form : Form) (s : List ℕ) → OneCause (Acceptable prover k limit form s) (ProvingCause prover k limit form s)
+  pub one-of-job : (request : ℕ) (prover : Prover) (k limit : ℕ) (form : Form) (s : List ℕ) (size : ℕ)
+      → OneCause (Asked request size × Acceptable prover k limit form s) (JobCause request prover k limit form s size)
   pub one-of-passes : (profile : Profile) (prover : Prover) (s : List ℕ) → OneCause (water.InputWithin profile prover s) (PassesCause profile prover s)
   pub one-of-draw : (profile : Profile) (prover : Prover) (s : List ℕ) → OneCause (water.Acceptable profile prover s) (DrawCause profile prover s)
   pub prove-exactly : (κ : _) (a : _) (r : _) (x : _) (number at : ℕ) → prove.Post κ a r x
-      → (toldReport r ≡ refused number at) ↔ JobCause (first a) (second a) (third a) (fourth a) (fifth a .now) (length (sixth a .now)) number at
+      → (toldReport r ≡ refused number at) ↔ JobCause (first a) (second a) (third a) (fourth a) (fifth a) (sixth a .now) (length (seventh a .now)) number at
   -- the entry that hands run records back gives no number: it hands back none exactly when there is a cause
   pub accept-exactly : (κ : _) (a : _) (r : _) (x : _) → accept.Post κ a r x
-      → (r .now ≡ []) ↔ ((number : ℕ) × (at : ℕ) × ProvingCause (first a) (second a) (third a) (fourth a .now) number at)
+      → (r .now ≡ []) ↔ ((number : ℕ) × (at : ℕ) × ProvingCause (first a) (second a) (third a) (fourth a) (fifth a .now) number at)
   pub volumes-exactly : (κ : _) (a : _) (r : _) (x : _) (number at : ℕ) → volumes.Post κ a r x
       → (toldCount (r .answer) ≡ refused number at) ↔ PassesCause (first a) (second a) (third a .now) number at
   pub draw-exactly : (κ : _) (a : _) (r : _) (x : _) (number at : ℕ) → draw.Post κ a r x

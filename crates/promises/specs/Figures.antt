@@ -4,7 +4,7 @@ use mathlib.Core.Path.{_≡_}
 use mathlib.Core.Bool.{true, false}
 use mathlib.Core.List.{List, [], _∷_, _++_}
 use mathlib.Core.Option.{some}
-use Prim.Native.Nat.{ℕ, zero, suc, _+_}
+use Prim.Native.Nat.{ℕ, zero, suc, _+_, _*_}
 use lib.IntN.{pos, negℤ}
 use lib.Ieee.{nan, binary32, ofBits}
 use lib.ListN.{length, replicate}
@@ -36,13 +36,16 @@ use Rattle.book.specs.declared.Book.{Book}
 unfoldable pub prover : Prover
 prover = record { metal = MildCarbon; pipe = record { diameter = 10020; wall = 365; modulus = 30000000 }; base = 200000 }
 
--- '73.5 °F, 40 psi, F 820, CTL 0.9907'; '200,000 pulses, .. meter CTL 0.9908, 40 psi, F 820'
-unfoldable pub run : ℕ → Run
-run pulses = record {
-  pulses = pulses;
+-- '73.5 °F, 40 psi, F 820, CTL 0.9907'; '200,000 pulses, .. meter CTL 0.9908, 40 psi, F 820'; and with a count in thousandths
+unfoldable pub interpolated : ℕ → Run
+interpolated thousandths = record {
+  pulses = thousandths;
   prover = record { temperature = pos 735; ctl = 9907; liquid = record { pressure = 40; compressibility = 820; equilibrium = 0 } };
   meter = record { temperature = pos 735; ctl = 9908; liquid = record { pressure = 40; compressibility = 820; equilibrium = 0 } };
 }
+
+unfoldable pub run : ℕ → Run
+run pulses = interpolated (pulses * 1000)
 
 -- propane, as Figure 6 of 000 prints it: base 2.0734, 12 inch pipe, wall 0.375, E 30,000,000; at this pressure at the prover, 395 psi at the meter
 unfoldable pub propaneProver : Prover
@@ -50,7 +53,7 @@ propaneProver = record { metal = MildCarbon; pipe = record { diameter = 12000; w
 
 unfoldable pub propane : ℕ → Run
 propane pressure = record {
-  pulses = 28631;
+  pulses = 28631 * 1000;
   prover = record { temperature = pos 770; ctl = 9780; liquid = record { pressure = pressure; compressibility = 2850; equilibrium = 115 } };
   meter = record { temperature = pos 765; ctl = 9789; liquid = record { pressure = 395; compressibility = 2850; equilibrium = 115 } };
 }
@@ -147,6 +150,15 @@ pub record Besides : Type 0 where
   -- one pulse against a K of 1,000,000.000 indicates nothing; half the pulses, twice the factor
   pub no-volume : workedOf prover 1000000000 (run 1) 3 ≡ refused 7 3
   pub no-factor : workedOf prover 10000000 (run 100000) 3 ≡ refused 8 3
+  -- 02: 'pulses in thousandths': a count of 200,000.600 is taken as it is, and 'divides the thousandths by K and rounds once'
+  pub not-whole : workedOf prover 10000000 (interpolated 200000600) 1 ≡ done (record {
+    indicated = 200001;
+    cts = 10003;
+    cps = 10000;
+    prover = record { cpl = 10003; factor = 9913; volume = 198260 };
+    meter = record { cpl = 10003; factor = 9911; volume = 198221 };
+    factor = 10002;
+  })
   -- 02: 'CPL becomes 1 / (1 - F × (P - Pe))': every printed value of the figure; at 115 psi CPL is 1; 'P below Pe is 5 in a record'
   pub figure-6 : workedOf propaneProver 13188000 (propane 385) 1 ≡ done (record {
     indicated = 21710;

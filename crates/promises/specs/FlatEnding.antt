@@ -25,6 +25,7 @@ use Rattle.api.specs.declared.tickets.EndakuroVolumes.{EndakuroVolumes}
 use Rattle.api.specs.declared.readings.EndakuroLive.{EndakuroLive}
 use Rattle.api.specs.declared.panel.EndakuroPanel.{EndakuroPanel}
 use Rattle.api.specs.declared.lookups.EndakuroEntry.{EndakuroEntry}
+use Rattle.api.specs.declared.moves.EndakuroMoved.{EndakuroMoved}
 use Rattle.api.specs.declared.books.EndakuroDone.{EndakuroDone}
 use Rattle.api.specs.declared.books.EndakuroTaken.{EndakuroTaken}
 use Rattle.api.specs.declared.books.EndakuroCommons.{EndakuroCommons}
@@ -104,6 +105,9 @@ shownIn f = record { number = f .number; at = f .at; values = f .shown }
 
 abbrev pub entryIn : EndakuroEntry → Flat Entry
 entryIn f = record { number = f .number; at = f .at; values = record { temperature = f .temperature; gravity = f .gravity; compressibility = f .compressibility } }
+
+abbrev pub movedIn : EndakuroMoved → Flat ℕ
+movedIn f = record { number = f .number; at = f .at; values = f .count }
 
 abbrev pub changeIn : EndakuroDone → Flat Unit
 changeIn f = record { number = f .number; at = f .at; values = tt }

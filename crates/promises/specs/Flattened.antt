@@ -13,8 +13,9 @@ use Rattle.ticket.specs.Answers.{told as toldTicket}
 use Rattle.live.specs.Live.{told as toldLive}
 use Rattle.live.specs.Panel.{told as toldPanel}
 use Rattle.lookup.specs.Answers.{told as toldLookUp}
+use Rattle.moving.specs.Answers.{told as toldMoved}
 use Rattle.book.specs.Answers.{toldChange, toldTake, toldCommons}
-use Rattle.api.specs.Flat.{flatFactor, flatReport, flatRun, flatFill, flatPasses, flatDraw, flatVolumes, flatLive, flatPanel, flatEntry, flatDone, flatTaken, flatCommons, flatQuotient}
+use Rattle.api.specs.Flat.{flatFactor, flatReport, flatRun, flatFill, flatPasses, flatDraw, flatVolumes, flatLive, flatPanel, flatEntry, flatMoved, flatDone, flatTaken, flatCommons, flatQuotient}
 
 abbrev pub LosesNothing : {A F R : Type 0} → (Told A → F) → (R → Told A) → Type 0
 LosesNothing {A} {F} {R} flat told = (a b : R) → flat (told a) ≡ flat (told b) → a ≡ b
@@ -31,6 +32,7 @@ pub record Flattened : Type 0 where
   pub live-loses-nothing : LosesNothing flatLive toldLive
   pub panel-loses-nothing : LosesNothing flatPanel toldPanel
   pub look-up-loses-nothing : LosesNothing flatEntry toldLookUp
+  pub moved-loses-nothing : LosesNothing flatMoved toldMoved
   pub change-loses-nothing : LosesNothing flatDone toldChange
   pub take-loses-nothing : LosesNothing flatTaken toldTake
   pub commons-lose-nothing : LosesNothing flatCommons toldCommons

@@ -38,8 +38,8 @@ RoundedTo d (num over den) q = RoundedOnce (num * 10 ^ d) den q
 
 -- 01, 'Proving': every figure of a run is its formula on the rounded figures before it
 pub record RunRounded (prover : Prover) (k : ℕ) (run : Run) (f : Figures) : Type 0 where
-  -- 'Indicated volume = pulses ÷ K', K in 0.001 pulse per barrel
-  pub indicated-volume : RoundedTo 4 (run .pulses * 1000 over k) (f .indicated)
+  -- 'Indicated volume = pulses ÷ K', K in 0.001 pulse per barrel; 02: 'divides the thousandths by K and rounds once'
+  pub indicated-volume : RoundedTo 4 (run .pulses over k) (f .indicated)
   pub steel-temperature : RoundedTo 4 (cts (run .prover .temperature) (coefficientOf (prover .metal))) (f .cts)
   pub steel-pressure : RoundedTo 4 (cps (run .prover .liquid .pressure) (prover .pipe .diameter) (prover .pipe .modulus) (prover .pipe .wall)) (f .cps)
   pub prover-liquid : RoundedTo 4 (cpl (run .prover .liquid .compressibility) (run .prover .liquid .pressure) (run .prover .liquid .equilibrium)) (f .prover .cpl)

@@ -37,3 +37,5 @@ pub mod Flattened
 pub mod Sent
 pub mod Transmitters
 pub mod TransmitterFigures
+pub mod LongRuns
+pub mod InterpolatedFigures

@@ -25,6 +25,14 @@ recordNumbers = 1 ∷ 3 ∷ 4 ∷ 5 ∷ 2 ∷ 7 ∷ 8 ∷ []
 abbrev pub runNumbers : List ℕ
 runNumbers = 3 ∷ 4 ∷ 5 ∷ 7 ∷ 8 ∷ []
 
+-- 02, 'Longer run records': '14, first of all'; 'moving checks fields and zeros as a job does (1, 5, 2); 36 with the record, after its 2',
+-- which is the way back's alone
+abbrev pub forwardNumbers : List ℕ
+forwardNumbers = 14 ∷ 1 ∷ 5 ∷ 2 ∷ []
+
+abbrev pub backNumbers : List ℕ
+backNumbers = 14 ∷ 1 ∷ 5 ∷ 2 ∷ 36 ∷ []
+
 -- 'A water draw drops 14, 22, 4 ..; more or fewer passes than 3 to 20 is 1, found after the records', and so is
 -- 02's count of passes for round trips; its passes or round trips alone; one fill
 abbrev pub drawNumbers : List ℕ

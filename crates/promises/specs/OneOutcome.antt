@@ -30,6 +30,7 @@ use Rattle.ranges.proofs.is_meter_factor.Reads as ranges-is-meter-factor
 use Rattle.ranges.proofs.is_sediment.Reads as ranges-is-sediment
 use Rattle.ranges.proofs.is_gravity.Reads as ranges-is-gravity
 use Rattle.ranges.proofs.are_entries.Reads as ranges-are-entries
+use Rattle.ranges.proofs.are_moved.Reads as ranges-are-moved
 use Rattle.exact.proofs.product.Reads as exact-product
 use Rattle.exact.proofs.sum.Reads as exact-sum
 use Rattle.exact.proofs.is_at_most.Reads as exact-is-at-most
@@ -52,10 +53,12 @@ use Rattle.factors.proofs.combined_or_zero.Reads as factors-combined-or-zero
 use Rattle.octets.proofs.byte_at.Reads as octets-byte-at
 use Rattle.octets.proofs.word_at.Reads as octets-word-at
 use Rattle.octets.proofs.long_at.Reads as octets-long-at
+use Rattle.octets.proofs.quad_at.Reads as octets-quad-at
 use Rattle.octets.proofs.signed_at.Reads as octets-signed-at
 use Rattle.octets.proofs.are_zero.Reads as octets-are-zero
 use Rattle.octets.proofs.word_bytes.Reads as octets-word-bytes
 use Rattle.octets.proofs.long_bytes.Reads as octets-long-bytes
+use Rattle.octets.proofs.quad_bytes.Reads as octets-quad-bytes
 use Rattle.octets.proofs.write_at.Reads as octets-write-at
 use Rattle.group.proofs.is_group.Reads as group-is-group
 use Rattle.group.proofs.first_group.Reads as group-first-group
@@ -63,12 +66,15 @@ use Rattle.group.proofs.mean.Reads as group-mean
 use Rattle.group.proofs.find_spread.Reads as group-find-spread
 use Rattle.report.proofs.write.Reads as report-write
 use Rattle.report.proofs.read.Reads as report-read
-use Rattle.run.proofs.decode.Reads as run-decode
-use Rattle.run.proofs.is_run.Reads as run-is-run
+use Rattle.run.proofs.records.size.Reads as run-size
+use Rattle.run.proofs.records.decode.Reads as run-decode
+use Rattle.run.proofs.records.judge_record.Reads as run-judge-record
 use Rattle.run.proofs.work_out.Reads as run-work-out
 use Rattle.run.proofs.show.Reads as run-show
 use Rattle.proving.proofs.prove.Reads as proving-prove
 use Rattle.proving.proofs.accept.Reads as proving-accept
+use Rattle.moving.proofs.forward.Reads as moving-forward
+use Rattle.moving.proofs.back.Reads as moving-back
 use Rattle.draw.proofs.fill.Reads as draw-fill
 use Rattle.draw.proofs.volumes.Reads as draw-volumes
 use Rattle.draw.proofs.draw.Reads as draw-draw
@@ -86,7 +92,7 @@ use Rattle.book.proofs.withdraw.Reads as book-withdraw
 use Rattle.book.proofs.take.Reads as book-take
 use Rattle.book.proofs.set_figures.Reads as book-set-figures
 use Rattle.book.proofs.tell_commons.Reads as book-tell-commons
-use Rattle.promises.specs.Arguments.{second, fifth, sixth}
+use Rattle.promises.specs.Arguments.{second, fifth, seventh}
 use Rattle.promises.specs.Outcome.{AnyArguments, OneAnswer, OneRead, OneLeft}
 
 pub record OneOutcome : Type 0 where
@@ -120,6 +126,7 @@ pub record OneOutcome : Type 0 where
   pub ranges-is-sediment-one : OneAnswer ranges-is-sediment.Pre ranges-is-sediment.Post
   pub ranges-is-gravity-one : OneAnswer ranges-is-gravity.Pre ranges-is-gravity.Post
   pub ranges-are-entries-one : OneAnswer ranges-are-entries.Pre ranges-are-entries.Post
+  pub ranges-are-moved-one : OneAnswer ranges-are-moved.Pre ranges-are-moved.Post
   pub exact-product-one : OneAnswer exact-product.Pre exact-product.Post
   pub exact-sum-one : OneAnswer exact-sum.Pre exact-sum.Post
   pub exact-is-at-most-one : OneAnswer exact-is-at-most.Pre exact-is-at-most.Post
@@ -142,10 +149,12 @@ pub record OneOutcome : Type 0 where
   pub octets-byte-at-one : OneAnswer octets-byte-at.Pre octets-byte-at.Post
   pub octets-word-at-one : OneAnswer octets-word-at.Pre octets-word-at.Post
   pub octets-long-at-one : OneAnswer octets-long-at.Pre octets-long-at.Post
+  pub octets-quad-at-one : OneAnswer octets-quad-at.Pre octets-quad-at.Post
   pub octets-signed-at-one : OneAnswer octets-signed-at.Pre octets-signed-at.Post
   pub octets-are-zero-one : OneAnswer octets-are-zero.Pre octets-are-zero.Post
   pub octets-word-bytes-one : OneAnswer octets-word-bytes.Pre octets-word-bytes.Post
   pub octets-long-bytes-one : OneAnswer octets-long-bytes.Pre octets-long-bytes.Post
+  pub octets-quad-bytes-one : OneAnswer octets-quad-bytes.Pre octets-quad-bytes.Post
   -- the bytes left in `to`
   pub octets-write-at-any : AnyArguments octets-write-at.Pre
   pub octets-write-at-one : OneLeft octets-write-at.Post (λ κ x. second x .now)
@@ -157,15 +166,20 @@ pub record OneOutcome : Type 0 where
   -- and the bytes left in its buffer
   pub report-write-left : OneLeft report-write.Post (λ κ x. fifth x .now)
   pub report-read-one : OneAnswer report-read.Pre report-read.Post
-  pub run-decode-one : OneAnswer run-decode.Pre run-decode.Post
-  pub run-is-run-one : OneAnswer run-is-run.Pre run-is-run.Post
+  pub run-records-size-one : OneAnswer run-size.Pre run-size.Post
+  pub run-records-decode-one : OneAnswer run-decode.Pre run-decode.Post
+  pub run-records-judge-record-one : OneAnswer run-judge-record.Pre run-judge-record.Post
   pub run-work-out-one : OneAnswer run-work-out.Pre run-work-out.Post
   pub run-show-one : OneAnswer run-show.Pre run-show.Post
   pub proving-prove-one : OneAnswer proving-prove.Pre proving-prove.Post
   -- and the bytes left in its buffer
-  pub proving-prove-left : OneLeft proving-prove.Post (λ κ x. sixth x .now)
+  pub proving-prove-left : OneLeft proving-prove.Post (λ κ x. seventh x .now)
   -- the part handed back, by the bytes in it: of the place that holds them a contract over values can't speak
   pub proving-accept-one : OneRead proving-accept.Pre proving-accept.Post (λ κ r. r .now)
+  pub moving-forward-one : OneAnswer moving-forward.Pre moving-forward.Post
+  pub moving-forward-left : OneLeft moving-forward.Post (λ κ x. second x .now)
+  pub moving-back-one : OneAnswer moving-back.Pre moving-back.Post
+  pub moving-back-left : OneLeft moving-back.Post (λ κ x. second x .now)
   pub draw-fill-one : OneAnswer draw-fill.Pre draw-fill.Post
   pub draw-volumes-one : OneAnswer draw-volumes.Pre draw-volumes.Post
   pub draw-draw-one : OneAnswer draw-draw.Pre draw-draw.Post

@@ -9,6 +9,11 @@ use Rattle.api.proofs.quotients.endakuro_rounded_ratio.Reads as ratio
 use Rattle.api.proofs.jobs.endakuro_prove.Reads as prove
 use Rattle.api.proofs.jobs.endakuro_accept.Reads as accept
 use Rattle.api.proofs.jobs.endakuro_run.Reads as a-run
+use Rattle.api.proofs.jobs.endakuro_prove_long.Reads as prove-long
+use Rattle.api.proofs.jobs.endakuro_accept_long.Reads as accept-long
+use Rattle.api.proofs.jobs.endakuro_run_long.Reads as a-long-run
+use Rattle.api.proofs.moves.endakuro_forward.Reads as forward
+use Rattle.api.proofs.moves.endakuro_back.Reads as back
 use Rattle.api.proofs.reports.endakuro_write.Reads as write
 use Rattle.api.proofs.reports.endakuro_read.Reads as read
 use Rattle.api.proofs.water.endakuro_fill.Reads as fill
@@ -23,7 +28,7 @@ use Rattle.api.proofs.panel.endakuro_panel_temperature.Reads as panel-temperatu
 use Rattle.api.proofs.panel.endakuro_panel_pressure.Reads as panel-pressure
 use Rattle.api.proofs.lookups.endakuro_look_up.Reads as look-up
 use Rattle.api.proofs.books.endakuro_empty.Reads as empty
-use Rattle.promises.specs.Arguments.{fifth, sixth}
+use Rattle.promises.specs.Arguments.{second, fifth, sixth}
 use Rattle.promises.specs.Outcome.{OneAnswer, OneLeft}
 
 pub record OneOutcomeC : Type 0 where
@@ -39,6 +44,14 @@ pub record OneOutcomeC : Type 0 where
   pub prove-left : OneLeft prove.Post (λ κ x. sixth x .now)
   pub accept-one : OneAnswer accept.Pre accept.Post
   pub run-one : OneAnswer a-run.Pre a-run.Post
+  pub prove-long-one : OneAnswer prove-long.Pre prove-long.Post
+  pub prove-long-left : OneLeft prove-long.Post (λ κ x. sixth x .now)
+  pub accept-long-one : OneAnswer accept-long.Pre accept-long.Post
+  pub run-long-one : OneAnswer a-long-run.Pre a-long-run.Post
+  pub forward-one : OneAnswer forward.Pre forward.Post
+  pub forward-left : OneLeft forward.Post (λ κ x. second x .now)
+  pub back-one : OneAnswer back.Pre back.Post
+  pub back-left : OneLeft back.Post (λ κ x. second x .now)
   pub write-one : OneAnswer write.Pre write.Post
   -- and the bytes left in its buffer
   pub write-left : OneLeft write.Post (λ κ x. fifth x .now)

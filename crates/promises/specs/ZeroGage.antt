@@ -19,7 +19,8 @@ use Rattle.factors.specs.Rounded.{combinedAt}
 use Rattle.factors.specs.Answers.{cplOf}
 use Rattle.factors.specs.declared.Liquid.{Liquid}
 use Rattle.factors.specs.declared.Prover.{Prover}
-use Rattle.run.specs.Record.{runSize, runAt, runOk, unnamedOk}
+use Rattle.run.specs.Record.{sizeOf, runAt, runOk, unnamedOk}
+use Rattle.run.specs.declared.Form.the-variants.{Short}
 use Rattle.run.specs.Figures.{indicated, steelCts, steelCps, correctedBy, figuresOf}
 use Rattle.run.specs.Answers.{figuresFault}
 use Rattle.run.specs.declared.Side.{Side}
@@ -46,7 +47,8 @@ liquidOk01 liquid = pressureOk (liquid .pressure) && compressibilityOk (liquid .
 unfoldable pub cplAt01 : ℕ → Liquid → ℕ
 cplAt01 d liquid = rounded d (cpl01 liquid)
 
--- 'Run: 0 pulses (4), .. 18 meter F (2 each)', and 'bytes not named are zero'
+-- 'Run: 0 pulses (4), .. 18 meter F (2 each)', and 'bytes not named are zero'. A run's pulses are held in thousandths: that those of 01's record are
+-- judged and divided as 01 has it is LongRuns.antt's
 unfoldable pub sideOk01 : Side → Bool
 sideOk01 side = temperatureOk (side .temperature) && (ctlOk (side .ctl) && liquidOk01 (side .liquid))
 
@@ -54,7 +56,7 @@ unfoldable pub runOk01 : Run → Bool
 runOk01 run = pulsesOk (run .pulses) && (sideOk01 (run .prover) && sideOk01 (run .meter))
 
 unfoldable pub unnamedOk01 : List ℕ → ℕ → Bool
-unnamedOk01 s i = zeroBetween s (runSize * i + 20) (runSize * i + runSize)
+unnamedOk01 s i = zeroBetween s (32 * i + 20) (32 * i + 32)
 
 -- 'Proving, by pipe prover', 1. to 4.
 unfoldable pub atProver01 : Prover → Run → Corrected
@@ -78,19 +80,19 @@ figures01 prover k run =
 
 -- '.. then records first to last, each with 5, 2; then 7 and 8 run by run; then 9'
 unfoldable pub recordFault01 : List ℕ → ℕ → Fault
-recordFault01 s i = orElse (demandAt (runOk01 (runAt runSize s i)) 5 (i + 1)) (demandAt (unnamedOk01 s i) 2 (i + 1))
+recordFault01 s i = orElse (demandAt (runOk01 (runAt Short s i)) 5 (i + 1)) (demandAt (unnamedOk01 s i) 2 (i + 1))
 
 unfoldable pub runFault01 : Prover → ℕ → List ℕ → ℕ → Fault
-runFault01 prover k s i = figuresFault (figures01 prover k (runAt runSize s i)) (i + 1)
+runFault01 prover k s i = figuresFault (figures01 prover k (runAt Short s i)) (i + 1)
 
 unfoldable pub inputFault01 : Prover → ℕ → ℕ → List ℕ → Fault
 inputFault01 prover k limit s =
-    orElse (settingsFault prover k limit (length s))
-    (orElse (scan (recordFault01 s) (runsIn s) 0)
-    (scan (runFault01 prover k s) (runsIn s) 0))
+    orElse (settingsFault prover k limit Short (length s))
+    (orElse (scan (recordFault01 s) (runsIn Short s) 0)
+    (scan (runFault01 prover k s) (runsIn Short s) 0))
 
 unfoldable pub factors01 : Prover → ℕ → List ℕ → List ℕ
-factors01 prover k s = listed (λ i. figures01 prover k (runAt runSize s i) .factor) (runsIn s) 0
+factors01 prover k s = listed (λ i. figures01 prover k (runAt Short s i) .factor) (runsIn Short s) 0
 
 -- what is told of the first qualifying five, by their place
 unfoldable pub found01 : {A : Type 0} → Prover → ℕ → ℕ → List ℕ → (ℕ → A) → Told A
@@ -99,10 +101,10 @@ found01 prover k limit s tell = unless (inputFault01 prover k limit s) (nineUnle
 unfoldable pub job01 : ℕ → Prover → ℕ → ℕ → List ℕ → ℕ → Told Report
 job01 request prover k limit s size =
     unless (orElse (demand (eqb size 32) 14) (demand (not (eqb request 0)) 22))
-    (found01 prover k limit s (λ at. reportOf request (runsIn s) (at + 1) (fiveAt (factors01 prover k s) at)))
+    (found01 prover k limit s (λ at. reportOf request (runsIn Short s) (at + 1) (fiveAt (factors01 prover k s) at)))
 
 unfoldable pub accepted01 : Prover → ℕ → ℕ → List ℕ → List ℕ
-accepted01 prover k limit s = acceptedBy runSize (found01 prover k limit s (λ at. at)) s
+accepted01 prover k limit s = acceptedBy (sizeOf Short) (found01 prover k limit s (λ at. at)) s
 
 -- 'Ticket'
 unfoldable pub ticketOk01 : Ticket → Bool
@@ -131,14 +133,14 @@ pub record ZeroGage : Type 0 where
   pub in-range : (liquid : Liquid) → liquid .equilibrium ≡ 0 → liquidOk liquid ≡ liquidOk01 liquid
   pub cpl-as-before : (d : ℕ) (liquid : Liquid) → liquid .equilibrium ≡ 0 → cplOf d liquid ≡ judged (demand (liquidOk01 liquid) 5) (cplAt01 d liquid)
   -- a record that 01 accepts has zeros from byte 20 on: it holds no Pe, and its unnamed bytes are in order
-  pub holds-none : (s : List ℕ) (i : ℕ) → unnamedOk01 s i ≡ true → HoldsNone (runAt runSize s i) × (unnamedOk runSize s i ≡ true)
+  pub holds-none : (s : List ℕ) (i : ℕ) → unnamedOk01 s i ≡ true → HoldsNone (runAt Short s i) × (unnamedOk Short s i ≡ true)
   -- a run that holds none is judged as before and has the figures of before
   pub run-as-before : (prover : Prover) (k : ℕ) (run : Run) → HoldsNone run → (runOk run ≡ runOk01 run) × (figuresOf prover k run ≡ figures01 prover k run)
   -- a job whose records hold none is answered as before, accepted or refused, and so are its accepted runs; and what 01 accepts holds none
-  pub job-as-before : (request : ℕ) (prover : Prover) (k limit : ℕ) (s : List ℕ) (size : ℕ) → Every (runsIn s) (λ i. HoldsNone (runAt runSize s i))
-      → jobOf request prover k limit s size ≡ job01 request prover k limit s size
-  pub runs-as-before : (prover : Prover) (k limit : ℕ) (s : List ℕ) → Every (runsIn s) (λ i. HoldsNone (runAt runSize s i)) → acceptedOf prover k limit s ≡ accepted01 prover k limit s
+  pub job-as-before : (request : ℕ) (prover : Prover) (k limit : ℕ) (s : List ℕ) (size : ℕ) → Every (runsIn Short s) (λ i. HoldsNone (runAt Short s i))
+      → jobOf request prover k limit Short s size ≡ job01 request prover k limit s size
+  pub runs-as-before : (prover : Prover) (k limit : ℕ) (s : List ℕ) → Every (runsIn Short s) (λ i. HoldsNone (runAt Short s i)) → acceptedOf prover k limit Short s ≡ accepted01 prover k limit s
   pub accepted-as-before : (request : ℕ) (prover : Prover) (k limit : ℕ) (s : List ℕ) (size : ℕ) {report : Report}
-      → job01 request prover k limit s size ≡ done report → jobOf request prover k limit s size ≡ done report
+      → job01 request prover k limit s size ≡ done report → jobOf request prover k limit Short s size ≡ done report
   -- so is a ticket
   pub ticket-as-before : (t : Ticket) → t .liquid .equilibrium ≡ 0 → ticketOf t ≡ ticket01 t

@@ -13,6 +13,7 @@ use Rattle.group.specs.Repeatability.{nineUnless}
 use Rattle.run.specs.Record.{runAt, runOk}
 use Rattle.run.specs.Figures.{figuresOf}
 use Rattle.run.specs.Answers.{givenFault, figuresTold, workedOf}
+use Rattle.run.specs.declared.Form.{Form}
 use Rattle.proving.specs.Judging.{runFault}
 
 module _ {A : Type 0} where
@@ -35,8 +36,8 @@ refused-alike fine (some at) follows also is = cc
 refused-alike (fault number at) o follows also is = λ i. refused (refused-number is i) (refused-record is i)
 
 -- a run whose settings, K and fields were judged answers with its own 7 or 8, or with its figures
-pub run-judged : (prover : Prover) (k : ℕ) (s : List ℕ) (i : ℕ) → proverOk prover ≡ true → kFactorOk k ≡ true → runOk (runAt 32 s i) ≡ true
-    → workedOf prover k (runAt 32 s i) (i + 1) ≡ judged (runFault prover k s i) (figuresOf prover k (runAt 32 s i))
+pub run-judged : (prover : Prover) (k : ℕ) (form : Form) (s : List ℕ) (i : ℕ) → proverOk prover ≡ true → kFactorOk k ≡ true → runOk (runAt form s i) ≡ true
+    → workedOf prover k (runAt form s i) (i + 1) ≡ judged (runFault prover k form s i) (figuresOf prover k (runAt form s i))
 unfolding givenFault figuresTold workedOf runFault
-run-judged prover k s i p kok fields =
-    ap (λ (f : Fault). unless f (figuresTold prover k (runAt 32 s i) (i + 1))) (orElse-next _ (demand-holds 3 p) ∙ orElse-next _ (demand-holds 4 kok) ∙ demandAt-holds 5 (i + 1) fields)
+run-judged prover k form s i p kok fields =
+    ap (λ (f : Fault). unless f (figuresTold prover k (runAt form s i) (i + 1))) (orElse-next _ (demand-holds 3 p) ∙ orElse-next _ (demand-holds 4 kok) ∙ demandAt-holds 5 (i + 1) fields)

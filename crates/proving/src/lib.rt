@@ -11,8 +11,8 @@ ghost use Rattle.factors.specs.Prover.{proverOk};
 ghost use Rattle.group.specs.Repeatability.{firstGroup, nineUnless};
 ghost use Rattle.report.specs.Record.{bytesOfReport};
 ghost use Rattle.report.specs.Judged.{told};
-ghost use Rattle.run.specs.Record.{runSize, runAt, runOk};
-ghost use Rattle.proving.specs.Judging.{settingsFault, recordFault, runFault, inputFault};
+ghost use Rattle.run.specs.Record.{runAt, runOk};
+ghost use Rattle.proving.specs.Judging.{runsIn, settingsFault, lentFault, runFault, inputFault};
 ghost use Rattle.proving.specs.Job.{HoldsFactors, HoldsAll, foundOf, fiveAt, jobOf, acceptedOf};
 ghost use Rattle.proving.specs.Answers.{refusedIn, toldFound};
 use factors::Prover;
@@ -21,6 +21,7 @@ use refusals::Refusal;
 use refusals::Verdict;
 use report::Answer;
 use report::Factors;
+use run::Form;
 use run::Worked;
 
 // The run factors of a job, of which the first so many count, and what judging found.
@@ -40,33 +41,21 @@ struct Five {
     found: Found,
 }
 
-// 5, then 2, of one record, counted from 0.
-fn judge_record(records: &[u8], i: usize) -> Verdict
-    requires { ⌜ i < 20 ⌝ }
-    ensures { λ r. ⌜ faultOf r ≡ recordFault (now (records .entry)) i ⌝ }
+// How many runs are lent.
+fn count_runs(form: Form, records: &[u8]) -> usize
+    ensures { λ r. ⌜ r ≡ runsIn form (now (records .entry)) ⌝ }
 {
-    let at = 32 * i;
-    let number = (i + 1) as u16;
-    refusals::or_else(
-        refusals::demand(
-            run::is_run(run::decode(records, i)),
-            Refusal::RecordField(number),
-        ),
-        refusals::demand(
-            octets::are_zero(records, at + 24, at + 32),
-            Refusal::UnnamedByte(number),
-        ),
-    )
+    records.len() / run::records::size(form)
 }
 
 // The records, first to last.
-fn judge_records(records: &[u8], count: usize) -> Verdict
+fn judge_records(form: Form, records: &[u8], count: usize) -> Verdict
     requires { ⌜ count ≤ 20 ⌝ }
-    ensures { λ r. ⌜ faultOf r ≡ scan (recordFault (now (records .entry))) count 0 ⌝ }
+    ensures { λ r. ⌜ faultOf r ≡ scan (lentFault form (now (records .entry))) count 0 ⌝ }
 {
     let mut i: usize = 0;
     while i < count {
-        let verdict = judge_record(records, i);
+        let verdict = run::records::judge_record(form, records, i, (i + 1) as u16);
         let Verdict::Fine = verdict else {
             return verdict;
         };
@@ -76,14 +65,14 @@ fn judge_records(records: &[u8], count: usize) -> Verdict
 }
 
 // The runs' factors, first to last. A run that has no factor ends the job with that run's refusal.
-fn work_out_runs(prover: Prover, k: u32, records: &[u8], count: usize) -> Runs
-    requires { ⌜ (proverOk prover ≡ true) × (kFactorOk k ≡ true) × (count ≤ 20) × ((i : ℕ) → i < count → runOk (runAt runSize (now records) i) ≡ true) ⌝ }
-    ensures { λ r. ⌜ (faultOf (r .verdict) ≡ scan (runFault prover k (now (records .entry))) count 0) × (length (r .factors) ≡ 20) × (faultOf (r .verdict) ≡ fine → HoldsFactors (r .factors) count prover k (now (records .entry))) ⌝ }
+fn work_out_runs(prover: Prover, k: u32, form: Form, records: &[u8], count: usize) -> Runs
+    requires { ⌜ (proverOk prover ≡ true) × (kFactorOk k ≡ true) × (count ≤ 20) × ((i : ℕ) → i < count → runOk (runAt form (now records) i) ≡ true) ⌝ }
+    ensures { λ r. ⌜ (faultOf (r .verdict) ≡ scan (runFault prover k form (now (records .entry))) count 0) × (length (r .factors) ≡ 20) × (faultOf (r .verdict) ≡ fine → HoldsFactors (r .factors) count prover k form (now (records .entry))) ⌝ }
 {
     let mut values = [0u64; 20];
     let mut i: usize = 0;
     while i < count {
-        let run = run::decode(records, i);
+        let run = run::records::decode(form, records, i);
         let worked = run::work_out(prover, k, run, (i + 1) as u16);
         let Worked::Figures(figures) = worked else {
             return Runs {
@@ -111,12 +100,13 @@ fn refuse(worked: Worked) -> Verdict
 }
 
 // 1, 3, 4 and 4: the size of what is lent, the prover's settings, K and the limit.
-fn judge_settings(prover: Prover, k: u32, limit: u16, size: usize) -> Verdict
-    ensures { λ r. ⌜ faultOf r ≡ settingsFault prover k limit size ⌝ }
+fn judge_settings(prover: Prover, k: u32, limit: u16, form: Form, lent: usize) -> Verdict
+    ensures { λ r. ⌜ faultOf r ≡ settingsFault prover k limit form lent ⌝ }
 {
+    let size = run::records::size(form);
     refusals::or_else(
         refusals::demand(
-            (size % 32 == 0) & ranges::are_runs((size / 32) as u64),
+            (lent % size == 0) & ranges::are_runs((lent / size) as u64),
             Refusal::Records,
         ),
         refusals::or_else(
@@ -130,25 +120,25 @@ fn judge_settings(prover: Prover, k: u32, limit: u16, size: usize) -> Verdict
 }
 
 // All that is judged before a group is looked for.
-fn judge_input(prover: Prover, k: u32, limit: u16, records: &[u8]) -> Runs
-    ensures { λ r. ⌜ (faultOf (r .verdict) ≡ inputFault prover k limit (now (records .entry))) × (length (r .factors) ≡ 20) × (faultOf (r .verdict) ≡ fine → HoldsAll (r .factors) prover k (now (records .entry))) ⌝ }
+fn judge_input(prover: Prover, k: u32, limit: u16, form: Form, records: &[u8]) -> Runs
+    ensures { λ r. ⌜ (faultOf (r .verdict) ≡ inputFault prover k limit form (now (records .entry))) × (length (r .factors) ≡ 20) × (faultOf (r .verdict) ≡ fine → HoldsAll (r .factors) prover k form (now (records .entry))) ⌝ }
 {
-    let verdict = judge_settings(prover, k, limit, records.len());
+    let verdict = judge_settings(prover, k, limit, form, records.len());
     let Verdict::Fine = verdict else {
         return Runs {
             factors: [0u64; 20],
             verdict,
         };
     };
-    let count = records.len() / 32;
-    let judged = judge_records(records, count);
+    let count = count_runs(form, records);
+    let judged = judge_records(form, records, count);
     let Verdict::Fine = judged else {
         return Runs {
             factors: [0u64; 20],
             verdict: judged,
         };
     };
-    work_out_runs(prover, k, records, count)
+    work_out_runs(prover, k, form, records, count)
 }
 
 // The first qualifying five, or 9.
@@ -162,15 +152,15 @@ fn seek(values: &[u64], limit: u16) -> Found
     }
 }
 
-fn find_five(prover: Prover, k: u32, limit: u16, records: &[u8]) -> Five
-    ensures { λ r. ⌜ (toldFound (r .found) ≡ foundOf prover k limit (now (records .entry))) × (length (r .factors) ≡ 20) × ((at : ℕ) → toldFound (r .found) ≡ done at → HoldsAll (r .factors) prover k (now (records .entry))) ⌝ }
+fn find_five(prover: Prover, k: u32, limit: u16, form: Form, records: &[u8]) -> Five
+    ensures { λ r. ⌜ (toldFound (r .found) ≡ foundOf prover k limit form (now (records .entry))) × (length (r .factors) ≡ 20) × ((at : ℕ) → toldFound (r .found) ≡ done at → HoldsAll (r .factors) prover k form (now (records .entry))) ⌝ }
 {
-    let runs = judge_input(prover, k, limit, records);
+    let runs = judge_input(prover, k, limit, form, records);
     let factors = runs.factors;
     let verdict = runs.verdict;
     match verdict {
         Verdict::Fine => {
-            let count = records.len() / 32;
+            let count = count_runs(form, records);
             Five {
                 factors,
                 found: seek(&factors[..count], limit),
@@ -203,11 +193,12 @@ pub fn prove(
     prover: Prover,
     k: u32,
     limit: u16,
+    form: Form,
     records: &[u8],
     buffer: &mut [u8],
 ) -> Answer
-    ensures answer { λ r. ⌜ told r ≡ jobOf request prover k limit (now (records .entry)) (length (now (buffer .entry))) ⌝ }
-    ensures left { λ _. ⌜ now (buffer .exit) ≡ leftBy (jobOf request prover k limit (now (records .entry)) (length (now (buffer .entry)))) bytesOfReport (now (buffer .entry)) ⌝ }
+    ensures answer { λ r. ⌜ told r ≡ jobOf request prover k limit form (now (records .entry)) (length (now (buffer .entry))) ⌝ }
+    ensures left { λ _. ⌜ now (buffer .exit) ≡ leftBy (jobOf request prover k limit form (now (records .entry)) (length (now (buffer .entry)))) bytesOfReport (now (buffer .entry)) ⌝ }
 {
     let verdict = refusals::or_else(
         refusals::demand(buffer.len() == 32, Refusal::ReportBuffer),
@@ -215,12 +206,12 @@ pub fn prove(
     );
     match verdict {
         Verdict::Fine => {
-            let five = find_five(prover, k, limit, records);
+            let five = find_five(prover, k, limit, form, records);
             let found = five.found;
             match found {
                 Found::At(at) => {
                     let values = five.factors;
-                    let runs = (records.len() / 32) as u8;
+                    let runs = count_runs(form, records) as u8;
                     report::write(request, runs, (at + 1) as u8, take_five(values, at), buffer)
                 }
                 Found::Refused(refusal) => Answer::Refused(refusal),
@@ -231,15 +222,16 @@ pub fn prove(
 }
 
 // The five accepted run records, as a part of the lent records; the empty part on refusal.
-pub fn accept<'a>(prover: Prover, k: u32, limit: u16, records: &'a [u8]) -> &'a [u8]
-    ensures { λ r. ⌜ now r ≡ acceptedOf prover k limit (now (records .entry)) ⌝ }
+pub fn accept<'a>(prover: Prover, k: u32, limit: u16, form: Form, records: &'a [u8]) -> &'a [u8]
+    ensures { λ r. ⌜ now r ≡ acceptedOf prover k limit form (now (records .entry)) ⌝ }
 {
-    let five = find_five(prover, k, limit, records);
+    let five = find_five(prover, k, limit, form, records);
     let found = five.found;
     match found {
         Found::At(at) => {
-            let from = 32 * at;
-            let end = from + 160;
+            let size = run::records::size(form);
+            let from = size * at;
+            let end = from + 5 * size;
             &records[from..end]
         }
         Found::Refused(_) => &records[..0],

@@ -56,9 +56,9 @@ ctdwOk = within 980000 1020000
 unfoldable pub volumeOk : ℕ → Bool
 volumeOk = within 1 100000000
 
--- pulses
+-- pulses, 0.001 pulse (02, 'Longer run records'); of whole ones that is 01's 1 to 100,000,000
 unfoldable pub pulsesOk : ℕ → Bool
-pulsesOk = within 1 100000000
+pulsesOk = within 1000 100000000000
 
 -- K factor, 0.001 pulse per barrel
 unfoldable pub kFactorOk : ℕ → Bool
@@ -111,3 +111,7 @@ gravityOk = within 0 900
 -- 02, the same: records of a table
 unfoldable pub entriesOk : ℕ → Bool
 entriesOk = within 1 4096
+
+-- 02, 'Longer run records': records of a file to be moved
+unfoldable pub movedOk : ℕ → Bool
+movedOk = within 1 4096

@@ -2,7 +2,7 @@
 // table (specs/Table.antt): an end of a range stands in its function and nowhere else in the code.
 ghost use mathlib.Core.Path.{_≡_};
 ghost use Rattle.ranges.specs.Within.{within, withinSigned};
-ghost use Rattle.ranges.specs.Table.{temperatureOk, drawProverOk, drawMeasureOk, pressureOk, coefficientOk, modulusOk, diameterOk, wallOk, compressibilityOk, ctlOk, runFactorOk, ctdwOk, volumeOk, pulsesOk, kFactorOk, limitOk, runsOk, passesOk, pairedPassesOk, fillsOk, certifiedOk, scaleOk, readingOk, meterFactorOk, sedimentOk, gravityOk, entriesOk};
+ghost use Rattle.ranges.specs.Table.{temperatureOk, drawProverOk, drawMeasureOk, pressureOk, coefficientOk, modulusOk, diameterOk, wallOk, compressibilityOk, ctlOk, runFactorOk, ctdwOk, volumeOk, pulsesOk, kFactorOk, limitOk, runsOk, passesOk, pairedPassesOk, fillsOk, certifiedOk, scaleOk, readingOk, meterFactorOk, sedimentOk, gravityOk, entriesOk, movedOk};
 
 // x is lo to hi.
 fn is_within(x: u64, lo: u64, hi: u64) -> bool
@@ -109,11 +109,11 @@ pub fn is_volume(volume: u64) -> bool
     is_within(volume, 1, 100000000)
 }
 
-// Pulses.
+// Pulses, 0.001 pulse.
 pub fn are_pulses(pulses: u64) -> bool
     ensures { λ r. ⌜ r ≡ pulsesOk pulses ⌝ }
 {
-    is_within(pulses, 1, 100000000)
+    is_within(pulses, 1000, 100000000000)
 }
 
 // K factor, 0.001 pulse per barrel.
@@ -205,4 +205,11 @@ pub fn are_entries(entries: u64) -> bool
     ensures { λ r. ⌜ r ≡ entriesOk entries ⌝ }
 {
     is_within(entries, 1, 4096)
+}
+
+// Records of a file to be moved.
+pub fn are_moved(records: u64) -> bool
+    ensures { λ r. ⌜ r ≡ movedOk records ⌝ }
+{
+    is_within(records, 1, 4096)
 }

@@ -11,11 +11,11 @@ use Rattle.refusals.specs.declared.Verdict.{Verdict}
 use Rattle.refusals.specs.declared.Verdict.the-variants.{Fine, Refused}
 use Rattle.refusals.specs.Told.{Told, done, refused, Fault, fine, fault, demand, demandAt, orElse, unless, judged}
 use Rattle.refusals.specs.declared.Refusal.{Refusal}
-use Rattle.refusals.specs.declared.Refusal.the-variants.{Records, UnnamedByte, ProverSetting, KFactorOrLimit, RecordField, PassRule, IndicatedVolume, RunFactor, NoGroup, TicketField, ClosingBelowOpening, ReadingNotFinite, ReadingRange, ReportBuffer, NotReport, BookNotSound, UnknownShipper, NumberZero, AlreadyWaiting, CeilingReached, CommonsFull, NotWaiting, NothingToTake, BookNotEmpty, FiguresOutside, TableRecord, NoSuchPair, FaultCode, WrongKind}
+use Rattle.refusals.specs.declared.Refusal.the-variants.{Records, UnnamedByte, ProverSetting, KFactorOrLimit, RecordField, PassRule, IndicatedVolume, RunFactor, NoGroup, TicketField, ClosingBelowOpening, ReadingNotFinite, ReadingRange, ReportBuffer, NotReport, BookNotSound, UnknownShipper, NumberZero, AlreadyWaiting, CeilingReached, CommonsFull, NotWaiting, NothingToTake, BookNotEmpty, FiguresOutside, TableRecord, NoSuchPair, FaultCode, WrongKind, NotWhole}
 
 -- the case that a number and a record name: the first of the cases that has the number
 named : ℕ → List Refusal → Refusal
-named number [] = WrongKind
+named number [] = NotWhole 0
 named number (refusal ∷ rest) = cond (eqb (numberOf refusal) number) refusal (named number rest)
 
 caseOf : ℕ → ℕ → Refusal
@@ -52,6 +52,7 @@ case-back (TableRecord at) = refl
 case-back NoSuchPair = refl
 case-back FaultCode = refl
 case-back WrongKind = refl
+case-back (NotWhole at) = refl
 
 -- two refusals with the same number and record are the same
 pub refusal-one : (r s : Refusal) → numberOf r ≡ numberOf s → recordOf r ≡ recordOf s → r ≡ s
@@ -61,7 +62,7 @@ refusal-one r s p q = sym (case-back r) ∙ (λ i. caseOf (p i) (q i)) ∙ case-
 pub not-zero : (r : Refusal) → numberOf r ≡ 0 → ⊥
 unfolding caseOf named
 not-zero r is =
-    let last : numberOf r ≡ 35 = ap numberOf (sym (case-back r) ∙ ap (λ (n : ℕ). caseOf n (recordOf r)) is) in
+    let last : numberOf r ≡ 36 = ap numberOf (sym (case-back r) ∙ ap (λ (n : ℕ). caseOf n (recordOf r)) is) in
     omega arith
 
 -- two verdicts with the same fault are the same

@@ -3,7 +3,7 @@ use mathlib.Core.List.{List, [], _∷_}
 use Prim.Native.Nat.{ℕ}
 use Rattle.refusals.specs.declared.GivenBack.{GivenBack}
 use Rattle.refusals.specs.declared.Refusal.{Refusal}
-use Rattle.refusals.specs.declared.Refusal.the-variants.{Records, UnnamedByte, ProverSetting, KFactorOrLimit, RecordField, PassRule, IndicatedVolume, RunFactor, NoGroup, TicketField, ClosingBelowOpening, ReadingNotFinite, ReadingRange, ReportBuffer, NotReport, BookNotSound, UnknownShipper, NumberZero, AlreadyWaiting, CeilingReached, CommonsFull, NotWaiting, NothingToTake, BookNotEmpty, FiguresOutside, TableRecord, NoSuchPair, FaultCode, WrongKind}
+use Rattle.refusals.specs.declared.Refusal.the-variants.{Records, UnnamedByte, ProverSetting, KFactorOrLimit, RecordField, PassRule, IndicatedVolume, RunFactor, NoGroup, TicketField, ClosingBelowOpening, ReadingNotFinite, ReadingRange, ReportBuffer, NotReport, BookNotSound, UnknownShipper, NumberZero, AlreadyWaiting, CeilingReached, CommonsFull, NotWaiting, NothingToTake, BookNotEmpty, FiguresOutside, TableRecord, NoSuchPair, FaultCode, WrongKind, NotWhole}
 
 -- a row: its number, and '(*) carries the record, from 1'
 pub data Row : Type 0 where
@@ -40,6 +40,7 @@ rowOf (TableRecord at) = starred 32 at
 rowOf NoSuchPair = plain 33
 rowOf FaultCode = plain 34
 rowOf WrongKind = plain 35
+rowOf (NotWhole at) = starred 36 at
 
 -- the row's number
 abbrev pub numberIn : Row → ℕ
@@ -67,4 +68,4 @@ cases at =
     Records ∷ UnnamedByte at ∷ ProverSetting ∷ KFactorOrLimit ∷ RecordField at ∷ PassRule at ∷ IndicatedVolume at ∷ RunFactor at
     ∷ NoGroup ∷ TicketField ∷ ClosingBelowOpening ∷ ReadingNotFinite ∷ ReadingRange ∷ ReportBuffer ∷ NotReport ∷ BookNotSound
     ∷ UnknownShipper ∷ NumberZero ∷ AlreadyWaiting ∷ CeilingReached ∷ CommonsFull ∷ NotWaiting ∷ NothingToTake ∷ BookNotEmpty
-    ∷ FiguresOutside ∷ TableRecord at ∷ NoSuchPair ∷ FaultCode ∷ WrongKind ∷ []
+    ∷ FiguresOutside ∷ TableRecord at ∷ NoSuchPair ∷ FaultCode ∷ WrongKind ∷ NotWhole at ∷ []

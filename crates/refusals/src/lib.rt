@@ -32,7 +32,7 @@ pub enum Refusal {
     ReadingNotFinite,
     // 13: reading out of range
     ReadingRange,
-    // 14: report buffer not 32 bytes
+    // 14: report buffer not 32 bytes, or a move's not in proportion
     ReportBuffer,
     // 15: not a report
     NotReport,
@@ -64,6 +64,8 @@ pub enum Refusal {
     FaultCode,
     // 35: a channel of the wrong kind
     WrongKind,
+    // 36: a pulse count that isn't whole
+    NotWhole(u16),
 }
 
 // What judging finds: nothing, or why the caller is refused.
@@ -112,6 +114,7 @@ pub fn give_back(refusal: Refusal) -> GivenBack
         Refusal::NoSuchPair => GivenBack { number: 33, at: 0 },
         Refusal::FaultCode => GivenBack { number: 34, at: 0 },
         Refusal::WrongKind => GivenBack { number: 35, at: 0 },
+        Refusal::NotWhole(at) => GivenBack { number: 36, at },
     }
 }
 

@@ -1,15 +1,12 @@
--- What a run's record and ranges say, and the magnitudes of its figures.
-use mathlib.Core.Path.{_≡_, sym, ap, _∙_}
+-- What a run's ranges say, and the magnitudes of its figures.
+use mathlib.Core.Path.{_≡_, ap}
 use mathlib.Core.Bool.{true, _&&_}
-use mathlib.Core.List.{List, [], _∷_}
-use Prim.Native.Nat.{ℕ, _+_, _≤_}
+use mathlib.Core.List.{[], _∷_}
+use Prim.Native.Nat.{ℕ, _≤_}
 use native.Mathlib.Nat.{mul-le-mul}
 use native.Mathlib.Omega.{arith}
-use lib.ListN.{length}
 use Rattle.refusals.specs.Told.{fine, demand}
 use Rattle.refusals.proofs.Laws.{refusal-one, done-one, refused-number, refused-record, demand-was, demandAt-was, orElse-fine-first, orElse-fine-next}
-use Rattle.octets.specs.Octets.{wordAt, longAt, signedAt, signedOf}
-use Rattle.octets.proofs.Laws.{number-past}
 use Rattle.ranges.specs.Table.{temperatureOk, ctlOk, pulsesOk, kFactorOk, volumeOk}
 use Rattle.ranges.proofs.Laws.{both-first, both-second, within-high}
 use Rattle.factors.specs.Metal.{metalOk}
@@ -18,30 +15,13 @@ use Rattle.factors.specs.Liquid.{liquidOk}
 use Rattle.factors.specs.Rounded.{combinedAt}
 use Rattle.factors.specs.declared.Prover.{Prover}
 use Rattle.factors.proofs.Values.{combined-small}
-use Rattle.run.specs.Record.{runFrom, sideOk, runOk}
+use Rattle.run.specs.Record.{sideOk, runOk}
 use Rattle.run.specs.Answers.{givenFault, told}
 use Rattle.run.specs.declared.Figures.{Figures as Sheet}
 use Rattle.run.specs.declared.Worked.{Worked}
 use Rattle.run.specs.declared.Worked.the-variants.{Figures, Refused}
 use Rattle.run.specs.declared.Run.{Run}
 use Rattle.run.specs.declared.Side.{Side}
-
--- past the end every field reads as 0
-module _ (s : List ℕ) {at : ℕ} (h : length s ≤ at) where
-  word-past : (o : ℕ) → wordAt s (length s + o) ≡ wordAt s (at + o)
-  unfolding wordAt
-  word-past o = number-past 2 s (length s + o) (omega arith) ∙ sym (number-past 2 s (at + o) (omega arith))
-
-  pub run-past : runFrom s (length s) ≡ runFrom s at
-  unfolding runFrom longAt signedAt
-  run-past =
-      let pulses = number-past 4 s (length s) (omega arith) ∙ sym (number-past 4 s at h) in
-      λ i.
-      record {
-        pulses = pulses i;
-        prover = record { temperature = signedOf (word-past 4 i); ctl = word-past 12 i; liquid = record { pressure = word-past 8 i; compressibility = word-past 16 i; equilibrium = word-past 20 i } };
-        meter = record { temperature = signedOf (word-past 6 i); ctl = word-past 14 i; liquid = record { pressure = word-past 10 i; compressibility = word-past 18 i; equilibrium = word-past 22 i } };
-      }
 
 -- a side's ranges, one by one
 pub record SideFits (side : Side) : Type 0 where
@@ -61,7 +41,7 @@ ctl-most {x} ok = omega (arith, within-high 5000 15000 x ok)
 
 -- a run's and a prover's
 pub record RunFits (run : Run) : Type 0 where
-  pub pulses : run .pulses ≤ 100000000
+  pub pulses : run .pulses ≤ 100000000000
   pub prover : SideFits (run .prover)
   pub meter : SideFits (run .meter)
 
@@ -70,7 +50,7 @@ unfolding runOk pulsesOk
 run-fits run ok =
     let sides : (sideOk (run .prover) && sideOk (run .meter)) ≡ true = both-second (pulsesOk (run .pulses)) _ ok in
     record {
-      pulses = within-high 1 100000000 (run .pulses) (both-first (pulsesOk (run .pulses)) _ ok);
+      pulses = within-high 1000 100000000000 (run .pulses) (both-first (pulsesOk (run .pulses)) _ ok);
       prover = side-fits (run .prover) (both-first (sideOk (run .prover)) _ sides);
       meter = side-fits (run .meter) (both-second (sideOk (run .prover)) _ sides);
     }

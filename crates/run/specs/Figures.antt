@@ -1,6 +1,6 @@
 -- 01, 'Proving, by pipe prover': one run's figures, all at 4 places.
 use mathlib.Core.List.{List, [], _∷_}
-use Prim.Native.Nat.{ℕ, _*_}
+use Prim.Native.Nat.{ℕ}
 use Rattle.exact.specs.Rounding.{rounded, _over_}
 use Rattle.factors.specs.Rounded.{ctsAt, cpsAt, cplAt, combinedAt, correctedAt}
 use Rattle.factors.specs.declared.Prover.{Prover}
@@ -8,9 +8,9 @@ use Rattle.run.specs.declared.Run.{Run}
 use Rattle.run.specs.declared.Corrected.{Corrected}
 use Rattle.run.specs.declared.Figures.{Figures}
 
--- 1. 'Indicated volume = pulses ÷ K', with K in 0.001 pulse per barrel
+-- 1. 'Indicated volume = pulses ÷ K', with K in 0.001 pulse per barrel; 02: 'divides the thousandths by K and rounds once'
 unfoldable pub indicated : ℕ → ℕ → ℕ
-indicated pulses k = rounded 4 (pulses * 1000 over k)
+indicated thousandths k = rounded 4 (thousandths over k)
 
 -- the steel at the prover
 unfoldable pub steelCts : Prover → Run → ℕ

@@ -1,3 +1,4 @@
 pub mod Record
+pub mod Places
 pub mod Figures
 pub mod Answers

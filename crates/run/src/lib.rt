@@ -1,4 +1,6 @@
 // One run of a proving (01, 'Proving, by pipe prover'): its record, its figures and its factor.
+pub mod records;
+
 ghost use mathlib.Core.Path.{_≡_};
 ghost use mathlib.Core.Bool.{true};
 ghost use Prim.Native.Nat.{_*_, _^_, _<_, _≤_};
@@ -9,7 +11,7 @@ ghost use Rattle.exact.specs.Rounding.{rounded, _over_};
 ghost use Rattle.factors.specs.Prover.{proverOk};
 ghost use Rattle.factors.specs.Liquid.{liquidOk};
 ghost use Rattle.factors.specs.Rounded.{cplAt, combinedAt};
-ghost use Rattle.run.specs.Record.{runSize, runFrom, runAt, sideOk, runOk};
+ghost use Rattle.run.specs.Record.{runOk};
 ghost use Rattle.run.specs.Figures.{correctedBy, figuresFrom};
 ghost use Rattle.run.specs.Answers.{givenFault, figuresTold, workedOf, shownOf, told};
 use factors::Liquid;
@@ -25,8 +27,16 @@ pub struct Side {
     pub liquid: Liquid,
 }
 
+// The form of run records (02, 'Longer run records'): 32 bytes that count pulses, or 48 that count thousandths. No record tells: the
+// caller says which.
+pub enum Form {
+    Short,
+    Long,
+}
+
 pub struct Run {
-    pub pulses: u32,
+    // 0.001 pulse, whatever the record's form
+    pub pulses: u64,
     pub prover: Side,
     pub meter: Side,
 }
@@ -54,64 +64,6 @@ pub struct Figures {
 pub enum Worked {
     Figures(Figures),
     Refused(Refusal),
-}
-
-// The run record from a byte on.
-fn read_fields(s: &[u8], at: usize) -> Run
-    requires { ⌜ at ≤ length (now s) ⌝ }
-    ensures { λ r. ⌜ r ≡ runFrom (now (s .entry)) at ⌝ }
-{
-    let prover = Side {
-        temperature: octets::signed_at(s, at + 4),
-        ctl: octets::word_at(s, at + 12),
-        liquid: Liquid {
-            pressure: octets::word_at(s, at + 8),
-            compressibility: octets::word_at(s, at + 16),
-            equilibrium: octets::word_at(s, at + 20),
-        },
-    };
-    let meter = Side {
-        temperature: octets::signed_at(s, at + 6),
-        ctl: octets::word_at(s, at + 14),
-        liquid: Liquid {
-            pressure: octets::word_at(s, at + 10),
-            compressibility: octets::word_at(s, at + 18),
-            equilibrium: octets::word_at(s, at + 22),
-        },
-    };
-    Run {
-        pulses: octets::long_at(s, at),
-        prover,
-        meter,
-    }
-}
-
-// The run record at a place, from 0. Bytes past the end read as 0, and so does a record that begins there.
-pub fn decode(s: &[u8], i: usize) -> Run
-    ensures { λ r. ⌜ r ≡ runAt runSize (now (s .entry)) i ⌝ }
-{
-    // Past the end 32 * i might not fit.
-    if i <= s.len() / 32 {
-        return read_fields(s, 32 * i);
-    }
-    read_fields(s, s.len())
-}
-
-fn is_side(side: Side) -> bool
-    ensures { λ r. ⌜ r ≡ sideOk side ⌝ }
-{
-    let liquid = side.liquid;
-    ranges::is_temperature(side.temperature)
-        & (ranges::is_ctl(side.ctl as u64) & factors::is_liquid(liquid))
-}
-
-// Every field of the run is in range.
-pub fn is_run(run: Run) -> bool
-    ensures { λ r. ⌜ r ≡ runOk run ⌝ }
-{
-    let prover = run.prover;
-    let meter = run.meter;
-    ranges::are_pulses(run.pulses as u64) & (is_side(prover) & is_side(meter))
 }
 
 // num / den at 4 places; a quotient by zero is 0, and no answer rests on it.
@@ -179,7 +131,7 @@ fn judge(prover: Prover, k: u32, run: Run, at: u16) -> Verdict
         refusals::demand(factors::is_prover(prover), Refusal::ProverSetting),
         refusals::or_else(
             refusals::demand(ranges::is_k_factor(k as u64), Refusal::KFactorOrLimit),
-            refusals::demand(is_run(run), Refusal::RecordField(at)),
+            refusals::demand(records::is_run(run), Refusal::RecordField(at)),
         ),
     )
 }
@@ -189,7 +141,7 @@ fn judge_figures(prover: Prover, k: u32, run: Run, at: u16) -> Worked
     requires { ⌜ (proverOk prover ≡ true) × (kFactorOk k ≡ true) × (runOk run ≡ true) ⌝ }
     ensures { λ r. ⌜ told r ≡ figuresTold prover k run at ⌝ }
 {
-    let indicated = round(run.pulses as u64 * 1000, k as u64);
+    let indicated = round(run.pulses, k as u64);
     if ranges::is_volume(indicated) {
         let figures = find_figures(prover, run, indicated);
         if ranges::is_run_factor(figures.factor) {
@@ -212,15 +164,19 @@ pub fn work_out(prover: Prover, k: u32, run: Run, at: u16) -> Worked
 }
 
 // One run's figures from its record alone, for a person to check.
-pub fn show(prover: Prover, k: u32, bytes: &[u8]) -> Worked
-    ensures { λ r. ⌜ told r ≡ shownOf prover k (now (bytes .entry)) ⌝ }
+pub fn show(prover: Prover, k: u32, form: Form, bytes: &[u8]) -> Worked
+    ensures { λ r. ⌜ told r ≡ shownOf prover k form (now (bytes .entry)) ⌝ }
 {
-    let run = decode(bytes, 0);
+    let run = records::decode(form, bytes, 0);
+    let size = records::size(form);
     let verdict = refusals::or_else(
-        refusals::demand(bytes.len() == 32, Refusal::Records),
+        refusals::demand(bytes.len() == size, Refusal::Records),
         refusals::or_else(
             judge(prover, k, run, 1),
-            refusals::demand(octets::are_zero(bytes, 24, 32), Refusal::UnnamedByte(1)),
+            refusals::demand(
+                octets::are_zero(bytes, records::shift(form) + 24, size),
+                Refusal::UnnamedByte(1),
+            ),
         ),
     );
     match verdict {

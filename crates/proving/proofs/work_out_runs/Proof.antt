@@ -23,14 +23,14 @@ use Rattle.proving.proofs.Laws.{run-judged}
 use Rattle.proving.proofs.work_out_runs.Tie as tie
 
 abbrev Inv-loop : tie.InvT-loop
-Inv-loop prover k records count values₀ i₀ values i =
-    (i ≤ count) × (length values ≡ 20) × (scan (runFault prover k records) count 0 ≡ scan (runFault prover k records) (count - i) i) × ((j : ℕ) → j < i → getD values j 0 ≡ factorAt prover k records j)
+Inv-loop prover k form records count values₀ i₀ values i =
+    (i ≤ count) × (length values ≡ 20) × (scan (runFault prover k form records) count 0 ≡ scan (runFault prover k form records) (count - i) i) × ((j : ℕ) → j < i → getD values j 0 ≡ factorAt prover k form records j)
 
 abbrev μ-loop : tie.MeasureT-loop
-μ-loop prover k records count values₀ i₀ values i = count - i
+μ-loop prover k form records count values₀ i₀ values i = count - i
 
 loop-holds : tie.Need-loop-holds Inv-loop μ-loop
-loop-holds c = (omega arith, refl, start faults (runFault _ _ _) _, λ j h. absurd (omega arith))
+loop-holds c = (omega arith, refl, start faults (runFault _ _ _ _) _, λ j h. absurd (omega arith))
 
 abbrev At : Type 0
 At = tie.After-work-out Inv-loop μ-loop
@@ -45,10 +45,10 @@ abbrev place : At → ℕ
 place c = c .before .before .before .loop .i
 
 abbrev fault : At → Fault
-fault c = runFault (begin c .args .prover) (begin c .args .k) (records c) (place c)
+fault c = runFault (begin c .args .prover) (begin c .args .k) (begin c .args .form) (records c) (place c)
 
 abbrev figures : At → Figures
-figures c = figuresOf (begin c .args .prover) (begin c .args .k) (runAt 32 (records c) (place c))
+figures c = figuresOf (begin c .args .prover) (begin c .args .k) (runAt (begin c .args .form) (records c) (place c))
 
 -- the run's answer is its own 7 or 8, or its figures
 answered : (c : At) → told (c .work-out .result) ≡ judged (fault c) (figures c)
@@ -56,7 +56,7 @@ answered c =
     let a = begin c in
     c .work-out .ensures
     ∙ ap (λ (run : Run). workedOf (a .args .prover) (a .args .k) run (place c + 1)) (c .before .decode .ensures)
-    ∙ run-judged (a .args .prover) (a .args .k) (records c) (place c) (a .pre .0) (a .pre .1) (a .pre .3 (place c) (c .before .before .loop-test .taken))
+    ∙ run-judged (a .args .prover) (a .args .k) (a .args .form) (records c) (place c) (a .pre .0) (a .pre .1) (a .pre .3 (place c) (c .before .before .loop-test .taken))
 
 returns : tie.Need-returns Inv-loop μ-loop
 returns c =
@@ -66,7 +66,7 @@ returns c =
     let is = c .before .enum-told .given .1 in
     let verdict = c .refuse .ensures ∙ ap refusedIn is in
     let here = judged-refused (fault d) (figures d) (sym (answered d) ∙ ap told is) in
-    let hit = scan-hit (runFault (a .prover) (a .k) (records d)) (a .count) (l .i) (d .before .before .loop-test .taken) here (l .inv .2) in
+    let hit = scan-hit (runFault (a .prover) (a .k) (a .form) (records d)) (a .count) (l .i) (d .before .before .loop-test .taken) here (l .inv .2) in
     (verdict ∙ sym hit, l .inv .1, λ clear. absurd (fault-not-fine (sym verdict ∙ clear)))
 
 loop-again : tie.Need-loop-again Inv-loop μ-loop
@@ -75,18 +75,18 @@ loop-again c =
     let d = c .before .before .before in
     let a = begin d in
     let l = d .before .before .before .loop in
-    let f = factorAt (a .args .prover) (a .args .k) (records d) in
+    let f = factorAt (a .args .prover) (a .args .k) (a .args .form) (records d) in
     let on = d .before .before .loop-test .taken in
     let is = sym (answered d) ∙ ap told (c .before .worked .given .1) in
     let factor = sym (ap (λ (s : Figures). s .factor) (judged-done (fault d) (figures d) is)) in
-    let passed = next faults (runFault (a .args .prover) (a .args .k) (records d)) (a .args .count) (l .i) on (judged-was (fault d) (figures d) is) (l .inv .2) in
+    let passed = next faults (runFault (a .args .prover) (a .args .k) (a .args .form) (records d)) (a .args .count) (l .i) on (judged-was (fault d) (figures d) is) (l .inv .2) in
     (omega (arith, on), length-set (l .values) (l .i) _ ∙ l .inv .1, passed, filled (l .values) (l .i) _ f (omega (arith, on, a .pre .2)) (l .inv .3) factor)
 
 returns-2 : tie.Need-returns-2 Inv-loop μ-loop
 returns-2 c =
     let a = c .before .before .before .args in
     let l = c .before .loop in
-    (sym (done faults (runFault (a .prover) (a .k) (now (a .records))) (a .count) (l .i) (c .loop-test .left) (l .inv .2)), l .inv .1, λ clear j h. l .inv .3 j (omega arith))
+    (sym (done faults (runFault (a .prover) (a .k) (a .form) (now (a .records))) (a .count) (l .i) (c .loop-test .left) (l .inv .2)), l .inv .1, λ clear j h. l .inv .3 j (omega arith))
 
 pub work-out-runs-spec : {M : Type 1} → Rattle.proving.proofs.work_out_runs.Statement.statement M
 work-out-runs-spec =

@@ -14,13 +14,13 @@ use Rattle.run.specs.declared.Figures.{Figures}
 use Rattle.run.proofs.judge_figures.Tie as tie
 
 abbrev start : tie.After-is-volume → tie.Start
-start c = c .before .before .before
+start c = c .before .before
 
 abbrev figures : tie.After-is-volume → Figures
 figures c = figuresOf (start c .args .prover) (start c .args .k) (start c .args .run)
 
 round-requires : tie.Need-round-requires
-round-requires c κs = omega (arith, run-fits (c .before .args .run) (c .before .pre .2))
+round-requires c κs = omega (arith, run-fits (c .args .run) (c .pre .2))
 
 find-figures-requires : tie.Need-find-figures-requires
 unfolding volumeOk
@@ -62,4 +62,4 @@ returns-3 c = sym (judged-fault _ (orElse-first _ (demandAt-fails 7 _ (sym (judg
 pub judge-figures-spec : {M : Type 1} → Rattle.run.proofs.judge_figures.Statement.statement M
 judge-figures-spec =
     tie.close
-    (tie.spec (search needs) (search needs) round-requires (search needs) find-figures-requires (search needs) returns returns-2 returns-3)
+    (tie.spec round-requires (search needs) find-figures-requires (search needs) returns returns-2 returns-3)
