@@ -2,6 +2,8 @@
 // Each answer is flattened to one struct as C lays it out: number 0 and record 0 (`at`) with the values
 // when done; the paper's number and record and all values zero when refused. Lent bytes are a pointer and
 // a length, and a part of them goes out as start and length.
+#![tactic(auto)]
+
 pub mod books;
 pub mod corrections;
 pub mod jobs;

@@ -1,5 +1,7 @@
 // The book of waiting requests (01, 'The book'; 02, 'Places by agreement'), by value: it goes in and comes back with each call,
 // and a refusal hands the same book back. Its answers stand beside it, since a book holds arrays.
+#![tactic(auto)]
+
 ghost use Rattle.std.specs.Prelude.{◌≡◌, true, ◌<◌};
 ghost use Rattle.refusals.specs.Told.{fine};
 ghost use Rattle.octets.specs.Lists.{is_one_of};

@@ -1,6 +1,8 @@
 // The water draw of a pipe prover (01, 'Water draw'; 02, 'Bidirectional provers'): fills of a certified
 // measure, passes of fills, round trips of passes, and the base volume from the first three passes, or
 // round trips, that repeat. Volumes are in 0.01 cubic inch, factors have 6 places.
+#![tactic(auto)]
+
 ghost use Rattle.std.specs.Prelude.{◌≡◌, ◌≤◌, length};
 ghost use Rattle.draw.specs.Base.{barrels_of, base_from, base_of};
 ghost use Rattle.draw.specs.Answers.{told_fill, told_count, told_draw, fill_of, count_of, held_for, draw_of};

@@ -1,5 +1,7 @@
 // The line program: a line in, a line out, until the input ends. It holds one line, one answer and one
 // book, whatever the length of the input.
+#![tactic(auto)]
+
 ghost use Rattle.std.specs.Prelude.{◌≡◌, ◌<◌, length};
 
 use book::Book;

@@ -5,7 +5,7 @@ ghost use Rattle.std.specs.Prelude.{◌≡◌, ◌+◌, ◌*◌, ◌^◌, ◌<�
 use crate::BASE;
 
 // A quotient and what is left.
-#[derive(Drop)]
+#[derive(Clone, Copy)]
 pub(crate) struct Divided {
     pub(crate) quotient: u64,
     pub(crate) rest: u64,

@@ -1,5 +1,7 @@
 // Exact products, sums and rounded quotients of 64-bit numbers: the lowest layer (01, 'Factors'). No
 // layer above needs more than what its functions promise.
+#![tactic(auto)]
+
 ghost use Rattle.std.specs.Prelude.{◌≡◌, ◌+◌, ◌*◌, ◌^◌, ◌≤◌, ◌<◌, leb};
 ghost use Rattle.exact.specs.Words.{wide_of, value_of, sum_of};
 ghost use Rattle.exact.specs.Quotient.{quotient_of, value_or_zero};
@@ -11,14 +13,14 @@ mod multiplier;
 const BASE: u64 = 4294967296;
 
 // A number of two words: hi * 2^64 + lo.
-#[derive(Drop)]
+#[derive(Clone, Copy)]
 pub struct Wide {
     pub hi: u64,
     pub lo: u64,
 }
 
 // A rounded quotient, or why there is none.
-#[derive(Drop)]
+#[derive(Clone, Copy)]
 pub enum Quotient {
     Value(u64),
     ZeroDivisor,

@@ -7,7 +7,7 @@ use crate::BASE;
 
 // What the columns add up to, what is above a sum's digit being carried on: the lowest column, the middle
 // one with its first product, and with its second.
-#[derive(Drop)]
+#[derive(Clone, Copy)]
 struct Columns {
     low: u64,
     middle: u64,

@@ -1,5 +1,7 @@
 // The correction factors of 01, 'Factors': CTS, CPS and CPL, each rounded once to 4 or 6 places,
 // and the combined factor of rounded factors. A factor is a whole number of its last place.
+#![tactic(auto)]
+
 ghost use Rattle.std.specs.Prelude.{◌≡◌, ◌*◌, ◌≤◌, ◌<◌, ◌^◌, length, get_or};
 ghost use Rattle.exact.specs.Rounding.{rounded, ◌over◌};
 ghost use Rattle.factors.specs.Metal.{coefficient_of, metal_ok, metal_by};
@@ -13,7 +15,7 @@ use refusals::Refusal;
 
 // The prover's metal: one of the four named, or a certified cubical coefficient in 10^-7 per °F. A
 // certificate wins over the name.
-#[derive(Drop)]
+#[derive(Clone, Copy)]
 pub enum Metal {
     MildCarbon,
     Stainless304,
@@ -24,7 +26,7 @@ pub enum Metal {
 }
 
 // The pipe: inside diameter and wall in 0.001 inch, modulus of elasticity in psi.
-#[derive(Drop)]
+#[derive(Clone, Copy)]
 pub struct Pipe {
     pub diameter: u32,
     pub wall: u32,
@@ -32,7 +34,7 @@ pub struct Pipe {
 }
 
 // The prover's settings; the base volume is in 0.0001 barrel.
-#[derive(Drop)]
+#[derive(Clone, Copy)]
 pub struct Prover {
     pub metal: Metal,
     pub pipe: Pipe,
@@ -41,7 +43,7 @@ pub struct Prover {
 
 // A liquid at the prover, at the meter or on a ticket: its pressure P in psi gage, its compressibility F
 // in 10^-8 per psi and its equilibrium pressure Pe in psi gage, 0 where it does not boil at line conditions.
-#[derive(Drop)]
+#[derive(Clone, Copy)]
 pub struct Liquid {
     pub pressure: u16,
     pub compressibility: u16,
@@ -49,19 +51,19 @@ pub struct Liquid {
 }
 
 // Decimal places of a factor: four for proving and tickets, six for water draw.
-#[derive(Drop)]
+#[derive(Clone, Copy)]
 pub enum Places {
     Four,
     Six,
 }
 
-#[derive(Drop)]
+#[derive(Clone, Copy)]
 pub enum Factor {
     Value(u32),
     Refused(Refusal),
 }
 
-#[derive(Drop)]
+#[derive(Clone, Copy)]
 pub enum Combined {
     Value(u64),
     // more than four factors

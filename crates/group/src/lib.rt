@@ -1,6 +1,8 @@
 // The repeatability test, the first qualifying group and the rounded mean (01, 'Proving' and 'Water
 // draw'), for groups of any size. Nothing is asked of the values: where a product or a sum passes
 // 64 bits, it is carried in two words.
+#![tactic(auto)]
+
 ghost use Rattle.std.specs.Prelude.{◌≡◌, ◌<◌, min, max, length};
 ghost use Rattle.group.specs.Mean.{mean_of};
 ghost use Rattle.group.specs.Spread.{told_spread, spread_of};
@@ -10,27 +12,27 @@ use exact::Quotient;
 use refusals::Refusal;
 
 // The first qualifying group, by the place of its first value, from 0; or that there is none.
-#[derive(Drop)]
+#[derive(Clone, Copy)]
 pub enum Group {
     At(usize),
     Nothing,
 }
 
 // The smallest and the largest value, and their spread in 0.001 % of the smallest.
-#[derive(Drop)]
+#[derive(Clone, Copy)]
 pub struct Extent {
     pub smallest: u64,
     pub largest: u64,
     pub spread: u64,
 }
 
-#[derive(Drop)]
+#[derive(Clone, Copy)]
 pub enum Spread {
     Worked(Extent),
     Refused(Refusal),
 }
 
-#[derive(Drop)]
+#[derive(Clone, Copy)]
 struct Extremes {
     smallest: u64,
     largest: u64,

@@ -1,4 +1,6 @@
 // The line program's bytes as lower-case hex, and singles as eight hex digits (docs/LINES.md), read and printed.
+#![tactic(auto)]
+
 ghost use Rattle.std.specs.Prelude.{◌≡◌, ◌/◌, ◌%◌, ◌≤◌, ◌<◌};
 ghost use Rattle.io.specs.Counts.{IsPrefixLen};
 ghost use Rattle.octets.specs.Octets.{written_at};

@@ -1,5 +1,7 @@
 // The controller keeps one book and changes it in place (01, 'The book'). Each function takes the
 // book apart and calls the by-value one; the answer and the book left are that one's.
+#![tactic(auto)]
+
 ghost use Rattle.std.specs.Prelude.{◌≡◌};
 ghost use Rattle.book.specs.Answers.{told_change, told_take};
 ghost use Rattle.book.specs.Calls.{request_of, after_request, withdrawal_of, after_withdrawal, take_of, after_take, setting_of, after_setting};

@@ -13,7 +13,7 @@ use crate::{Live, is_psi, judge, single};
 use refusals::{Refusal, Verdict};
 
 // °F, °C or psi gage, or a fault code in the place of a number.
-#[derive(Drop)]
+#[derive(Clone, Copy)]
 pub enum Channel {
     Fahrenheit(f32),
     Celsius(f32),
@@ -22,7 +22,7 @@ pub enum Channel {
 }
 
 // What a channel comes to: whole tenths of °F, or whole psi.
-#[derive(Drop)]
+#[derive(Clone, Copy)]
 enum Taken {
     Whole(i16),
     Refused(Refusal),

@@ -1,5 +1,7 @@
 // 01, 'Live readings': a temperature and a pressure as singles go to tenths of °F and whole psi,
 // through their bits. One conversion, o + k·x with one rounding, serves both.
+#![tactic(auto)]
+
 ghost use Rattle.std.specs.Prelude.{◌≡◌};
 ghost use Rattle.std.specs.Float.Ieee.Scale.{finite};
 ghost use Rattle.refusals.specs.Told.{demand, or_else};
@@ -13,13 +15,13 @@ pub mod panel;
 mod single;
 
 // °F and psi gage.
-#[derive(Drop)]
+#[derive(Clone, Copy)]
 pub struct Reading {
     pub temperature: f32,
     pub pressure: f32,
 }
 
-#[derive(Drop)]
+#[derive(Clone, Copy)]
 pub enum Live {
     Whole { tenths: i16, psi: u16 },
     Refused(Refusal),

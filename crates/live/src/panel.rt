@@ -6,7 +6,7 @@ ghost use Rattle.live.specs.Panel.{told, panel_temperature_of, panel_pressure_of
 use refusals::Refusal;
 
 // °F, or psi gage.
-#[derive(Drop)]
+#[derive(Clone, Copy)]
 pub enum Panel {
     Shows(f32),
     Refused(Refusal),

@@ -16,7 +16,7 @@ const FIELD: u32 = 8388608;
 const SIDE: u32 = 2147483648;
 
 // A whole number by its side of zero and its size.
-#[derive(Drop)]
+#[derive(Clone, Copy)]
 struct Sided {
     below: bool,
     size: u64,

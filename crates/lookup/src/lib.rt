@@ -1,5 +1,7 @@
 // The compressibility F of a liquid, looked up in the printed 11.2.1 table (02, 'Look up compressibility'; 002),
 // which is lent as records of 8 bytes.
+#![tactic(auto)]
+
 ghost use Rattle.std.specs.Prelude.{◌≡◌, true, cond, ◌<◌, ◌≤◌, ltb, pos, nat_abs, ◌+ℤ◌};
 ghost use Rattle.std.proofs.Math.Option.{none, some};
 ghost use Rattle.refusals.specs.Told.{fine};
@@ -14,14 +16,14 @@ ghost use Rattle.lookup.specs.Answers.{told, entry_fault, record_found, look_up_
 use refusals::{Refusal, Verdict};
 
 // A record of the table: temperature in 0.1 °F, gravity in 0.1 °API, F in 10^-8 per psi.
-#[derive(Drop)]
+#[derive(Clone, Copy)]
 pub struct Entry {
     pub temperature: i16,
     pub gravity: u16,
     pub compressibility: u16,
 }
 
-#[derive(Drop)]
+#[derive(Clone, Copy)]
 pub enum LookUp {
     Found(Entry),
     Refused(Refusal),
@@ -29,7 +31,7 @@ pub enum LookUp {
 
 // What the pass over a table finds: a record at fault, or none and the place of the pair; as many as
 // there are records where none has it.
-#[derive(Drop)]
+#[derive(Clone, Copy)]
 struct Pass {
     verdict: Verdict,
     place: usize,

@@ -1,5 +1,7 @@
 // Run records moved between their two forms (02, 'Longer run records, and the way back'), over lent buffers: forward from 32 bytes to 48,
 // and back. Every record is judged before any byte is written.
+#![tactic(auto)]
+
 ghost use Rattle.std.specs.Prelude.{◌≡◌, true, ℕ, ◌+◌, ◌*◌, ◌<◌, ◌≤◌, length};
 ghost use Rattle.refusals.specs.Told.{left_by};
 ghost use Rattle.refusals.specs.Verdict.{fault_of};
@@ -14,7 +16,7 @@ ghost use Rattle.moving.specs.Answers.{told};
 use refusals::{Refusal, Verdict};
 use run::Form;
 
-#[derive(Drop)]
+#[derive(Clone, Copy)]
 pub enum Moved {
     // how many
     Records(u16),

@@ -1,4 +1,6 @@
 // The line program's decimal numbers (docs/LINES.md), read and printed.
+#![tactic(auto)]
+
 ghost use Rattle.std.specs.Prelude.{◌≡◌, ◌≤◌, nat_abs, drop};
 ghost use Rattle.std.proofs.Math.Option.{some};
 ghost use Rattle.octets.specs.Octets.{written_at};

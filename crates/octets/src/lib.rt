@@ -1,5 +1,7 @@
 // Numbers in bytes, little-endian (01, 'Records'). Every read is total: a byte past the end reads as 0,
 // so that a decoder above needs no test of its own.
+#![tactic(auto)]
+
 ghost use Rattle.std.specs.Prelude.{◌≡◌};
 ghost use Rattle.octets.specs.Octets.{byte_at, word_at, long_at, quad_at, signed_at, zero_between, bytes_of, written_at};
 

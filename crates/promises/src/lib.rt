@@ -6,3 +6,4 @@
 // and TransmitterFigures (smart transmitters), LongRuns and InterpolatedFigures (two forms of run records, and moving between them).
 // Demand1, Judging, Demand2 and Formulas are the same demands of the meanings that the contracts cite; Endings, FlatEndings, Reasons, Groups and
 // Meeting are their laws.
+#![tactic(auto)]

@@ -1,4 +1,6 @@
 // Proving by pipe prover (01, 'Proving, by pipe prover'): the job, its report, and the accepted runs.
+#![tactic(auto)]
+
 ghost use Rattle.std.specs.Prelude.{◌≡◌, true, ℕ, ◌+◌, ◌^◌, ◌<◌, ◌≤◌, length, get_or};
 ghost use Rattle.octets.specs.FirstToLast.{scan};
 ghost use Rattle.ranges.specs.Table.{k_factor_ok};
@@ -20,20 +22,20 @@ use report::{Answer, Factors};
 use run::{Form, Worked};
 
 // The run factors of a job, of which the first so many count, and what judging found.
-#[derive(Drop)]
+#[derive(Clone, Copy)]
 struct Runs {
     factors: [u64; 20],
     verdict: Verdict,
 }
 
 // Where the first qualifying five begin, from 0.
-#[derive(Drop)]
+#[derive(Clone, Copy)]
 enum Found {
     At(usize),
     Refused(Refusal),
 }
 
-#[derive(Drop)]
+#[derive(Clone, Copy)]
 struct Five {
     factors: [u64; 20],
     found: Found,

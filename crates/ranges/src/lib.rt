@@ -1,5 +1,7 @@
 // Judging a number by its range of the paper (01, 'Units and ranges'), a function for each quantity of the
 // table (specs/Table.antt): an end of a range stands in its function and nowhere else in the code.
+#![tactic(auto)]
+
 ghost use Rattle.std.specs.Prelude.{◌≡◌};
 ghost use Rattle.ranges.specs.Within.{within, within_signed};
 ghost use Rattle.ranges.specs.Table.{temperature_ok, draw_prover_ok, draw_measure_ok, pressure_ok, coefficient_ok, modulus_ok, diameter_ok, wall_ok, compressibility_ok, ctl_ok, run_factor_ok, ctdw_ok, volume_ok, pulses_ok, k_factor_ok, limit_ok, runs_ok, passes_ok, paired_passes_ok, fills_ok, certified_ok, scale_ok, reading_ok, meter_factor_ok, sediment_ok, gravity_ok, entries_ok, moved_ok};

@@ -1,11 +1,13 @@
 // The paper's table of numbers given back (01, 'Numbers given back') as one enum: a case for each
 // number. A case that the table stars carries the record at fault, counted from 1.
+#![tactic(auto)]
+
 ghost use Rattle.std.specs.Prelude.{◌≡◌};
 ghost use Rattle.refusals.specs.Table.{number_of, record_of, given_back};
 ghost use Rattle.refusals.specs.Told.{demand_at, or_else};
 ghost use Rattle.refusals.specs.Verdict.{fault_of};
 
-#[derive(Drop)]
+#[derive(Clone, Copy)]
 pub enum Refusal {
     // 1: lent records not whole, or too few or many
     Records,
@@ -70,7 +72,7 @@ pub enum Refusal {
 }
 
 // What judging finds: nothing, or why the caller is refused.
-#[derive(Drop)]
+#[derive(Clone, Copy)]
 pub enum Verdict {
     Fine,
     Refused(Refusal),
@@ -78,7 +80,7 @@ pub enum Verdict {
 
 // What the caller is given back: the table's number, and the record at fault, from 1, or 0 where
 // the table carries none.
-#[derive(Drop)]
+#[derive(Clone, Copy)]
 pub struct GivenBack {
     pub number: u8,
     pub at: u16,

@@ -1,4 +1,6 @@
 // The report record of a job (01, 'Records'): 32 bytes, written and read back.
+#![tactic(auto)]
+
 ghost use Rattle.std.specs.Prelude.{◌≡◌, length};
 ghost use Rattle.refusals.specs.Told.{left_by};
 ghost use Rattle.group.specs.Mean.{mean_of};
@@ -8,7 +10,7 @@ ghost use Rattle.report.specs.Judged.{factors_ok, job_ok, report_ok, write_of, r
 use refusals::{Refusal, Verdict};
 
 // Five consecutive run factors, each in 0.0001.
-#[derive(Drop)]
+#[derive(Clone, Copy)]
 pub struct Factors {
     pub one: u16,
     pub two: u16,
@@ -17,7 +19,7 @@ pub struct Factors {
     pub five: u16,
 }
 
-#[derive(Drop)]
+#[derive(Clone, Copy)]
 pub struct Report {
     // request number
     pub number: u32,
@@ -31,7 +33,7 @@ pub struct Report {
 }
 
 // A report as it was written or read, or why there is none.
-#[derive(Drop)]
+#[derive(Clone, Copy)]
 pub enum Answer {
     Fields(Report),
     Refused(Refusal),

@@ -1,4 +1,6 @@
 // One run of a proving (01, 'Proving, by pipe prover'): its record, its figures and its factor.
+#![tactic(auto)]
+
 pub mod records;
 
 ghost use Rattle.std.specs.Prelude.{◌≡◌, true, ◌*◌, ◌^◌, ◌<◌, ◌≤◌, length};
@@ -16,7 +18,7 @@ use factors::{Liquid, Places, Prover};
 use refusals::{Refusal, Verdict};
 
 // The readings at one side of the run: T in 0.1 °F, CTL in 0.0001, and the liquid's P, F and Pe.
-#[derive(Drop)]
+#[derive(Clone, Copy)]
 pub struct Side {
     pub temperature: i16,
     pub ctl: u16,
@@ -25,13 +27,13 @@ pub struct Side {
 
 // The form of run records (02, 'Longer run records'): 32 bytes that count pulses, or 48 that count thousandths. No record tells: the
 // caller says which.
-#[derive(Drop)]
+#[derive(Clone, Copy)]
 pub enum Form {
     Short,
     Long,
 }
 
-#[derive(Drop)]
+#[derive(Clone, Copy)]
 pub struct Run {
     // 0.001 pulse, whatever the record's form
     pub pulses: u64,
@@ -40,7 +42,7 @@ pub struct Run {
 }
 
 // What one side's readings make: CPL, the combined factor in 0.0001, the corrected volume in 0.0001 barrel.
-#[derive(Drop)]
+#[derive(Clone, Copy)]
 pub struct Corrected {
     pub cpl: u64,
     pub factor: u64,
@@ -48,7 +50,7 @@ pub struct Corrected {
 }
 
 // All of one run's figures, each rounded to 4 places.
-#[derive(Drop)]
+#[derive(Clone, Copy)]
 pub struct Figures {
     // indicated volume, 0.0001 barrel
     pub indicated: u64,
@@ -61,7 +63,7 @@ pub struct Figures {
 }
 
 // A run's figures, its factor among them, or why it has none.
-#[derive(Drop)]
+#[derive(Clone, Copy)]
 pub enum Worked {
     Figures(Figures),
     Refused(Refusal),

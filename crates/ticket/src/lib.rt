@@ -1,5 +1,7 @@
 // The measurement ticket of 01, 'Ticket': from two meter readings to gross standard and net volume.
 // Volumes are in 0.01 barrel, factors in 0.0001.
+#![tactic(auto)]
+
 ghost use Rattle.std.specs.Prelude.{◌≡◌, true, ◌*◌, ◌≤◌, ◌<◌};
 ghost use Rattle.exact.specs.Rounding.{rounded_div};
 ghost use Rattle.ticket.specs.Ranges.{ticket_ok};
@@ -8,7 +10,7 @@ ghost use Rattle.ticket.specs.Answers.{told, volumes, ticket_of};
 use factors::{Liquid, Places};
 use refusals::{Refusal, Verdict};
 
-#[derive(Drop)]
+#[derive(Clone, Copy)]
 pub struct Ticket {
     // the meter's readings, 0.01 barrel
     pub opening: u32,
@@ -22,7 +24,7 @@ pub struct Ticket {
     pub sediment: u32,
 }
 
-#[derive(Drop)]
+#[derive(Clone, Copy)]
 pub struct Volumes {
     // 0.0001
     pub factor: u32,
@@ -31,7 +33,7 @@ pub struct Volumes {
     pub net: u32,
 }
 
-#[derive(Drop)]
+#[derive(Clone, Copy)]
 pub enum Measured {
     Worked(Volumes),
     Refused(Refusal),

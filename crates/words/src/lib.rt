@@ -1,4 +1,6 @@
 // The words of a line (docs/LINES.md), between single spaces; and a text written into an answer.
+#![tactic(auto)]
+
 ghost use Rattle.std.specs.Prelude.{◌≡◌, ◌+◌, ◌≤◌, length, drop};
 ghost use Rattle.octets.specs.Octets.{written_at};
 ghost use Rattle.words.specs.Words.{first_word, after_word, word_of, space_in, word_count};

@@ -1,0 +1,34 @@
+-- `group::is_group` meets its contract: the two products, each of two words, compare as the test does.
+use mathlib.Core.Path.{◌≡◌, sym, ◌∙◌, ap}
+use mathlib.Core.List.{List}
+use Prim.Native.Nat.{ℕ, ◌*◌, ◌-◌, ◌<◌}
+use native.Mathlib.Omega.{arith}
+use lib.Dec.{leb}
+use lib.ListN.{length}
+use Rattle.exact.specs.Words.{value_of, wide_of}
+use Rattle.exact.specs.declared.Wide.{Wide}
+use Rattle.exact.proofs.Words.{value_wide}
+use Rattle.group.specs.Repeatability.{smallest, largest, qualifies}
+use Rattle.group.proofs.Bounds.{smallest_at_most_largest}
+use Rattle.group.proofs.Groups.{qualifies_none, qualifies_some}
+use Rattle.group.proofs.is_group.Goals as goal
+
+-- the two products, in two words each, compare as the test does
+compared : (limit : ℕ) (xs : List ℕ) (low high : ℕ) (spread allowed : Wide) → 0 < length xs → low ≡ smallest xs → high ≡ largest xs → spread ≡ wide_of ((high - low) * 10000)
+    → allowed ≡ wide_of (limit * low) → leb (value_of spread) (value_of allowed) ≡ qualifies limit xs
+compared limit xs low high spread allowed h is-low is-high is-spread is-allowed =
+    (λ i. leb ((ap value_of is-spread ∙ value_wide ((high - low) * 10000)) i) ((ap value_of is-allowed ∙ value_wide (limit * low)) i))
+    ∙ (λ i. leb ((is-high i - is-low i) * 10000) (limit * is-low i))
+    ∙ sym (qualifies_some limit xs h)
+
+pub returns-then-values-eq0 : goal.returns-then-values-eq0
+returns-then-values-eq0 c = sym (qualifies_none c.args.limit c.args.values.now c.if-values-eq0.true)
+
+pub overflow_sub-ends : goal.overflow_sub-ends
+overflow_sub-ends c = omega (arith, c.find_extremes-ends.ensures, smallest_at_most_largest c.args.values.now)
+
+pub returns : goal.returns
+returns c = let e = c.find_extremes-ends in
+    let a = c.args in
+    c.is_at_most.ensures
+    ∙ compared a.limit a.values.now e.result.smallest e.result.largest c.product-spread.result c.product-allowed.result (omega arith) e.ensures.0 e.ensures.1 c.product-spread.ensures c.product-allowed.ensures

@@ -1,0 +1,8 @@
+-- `octets::long_bytes` meets its contract: the array's list is the number's four bytes.
+use mathlib.Core.Path.{refl}
+use Rattle.octets.specs.Octets.{bytes_of}
+use Rattle.octets.proofs.long_bytes.Goals as goal
+
+pub returns : goal.returns
+unfolding bytes_of
+returns c = refl
