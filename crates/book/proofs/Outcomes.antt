@@ -5,7 +5,7 @@ use Rattle.refusals.specs.Told.{Told, refused}
 use Rattle.refusals.specs.Table.{number_of, record_of}
 use Rattle.refusals.specs.declared.Refusal.{Refusal}
 use Rattle.refusals.proofs.Laws.{done_one, refusal_one, refused_number, refused_record, refused_not_done}
-use Rattle.book.specs.Answers.{Handed, told_change, told_take, told_commons}
+use Rattle.book.specs.Answers.{told_change, told_take, told_commons}
 use Rattle.book.specs.declared.Book.{Book}
 use Rattle.book.specs.declared.Change.{Change}
 use Rattle.book.specs.declared.Change.TheVariants.{Made, Refused}

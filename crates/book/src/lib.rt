@@ -25,7 +25,7 @@ const SHIPPERS: u8 = 4;
 // The requests of one shipper that wait, oldest first. Laid out as C does, for controllers that
 // keep a book.
 #[repr(C)]
-#[derive(Drop)]
+#[derive(Clone, Copy)]
 pub struct Line {
     pub numbers: [u32; Line::WIDTH],
     pub count: usize,
@@ -38,7 +38,7 @@ impl Line {
 
 // Reserves and ceilings by agreement, those of shippers 0 to 3.
 #[repr(C)]
-#[derive(Drop)]
+#[derive(Clone, Copy)]
 pub struct Figures {
     pub reserves: [u8; 4],
     pub ceilings: [u8; 4],
@@ -46,7 +46,7 @@ pub struct Figures {
 
 // The lines of shippers 0 to 3, the shipper whose request was handed out last, and the figures agreed.
 #[repr(C)]
-#[derive(Drop)]
+#[derive(Clone, Copy)]
 pub struct Book {
     pub lines: [Line; 4],
     pub last: u8,
@@ -83,32 +83,32 @@ impl Book {
 }
 
 // What a request, a withdrawal and a setting are answered.
-#[derive(Drop)]
+#[derive(Clone, Copy)]
 pub enum Change {
     Made,
     Refused(Refusal),
 }
 
-#[derive(Drop)]
+#[derive(Clone, Copy)]
 pub struct Changed {
     pub book: Book,
     pub answer: Change,
 }
 
-#[derive(Drop)]
+#[derive(Clone, Copy)]
 pub enum Handout {
     // The shipper, and the number of its oldest request.
     Handed(u8, u32),
     Refused(Refusal),
 }
 
-#[derive(Drop)]
+#[derive(Clone, Copy)]
 pub struct Taken {
     pub book: Book,
     pub answer: Handout,
 }
 
-#[derive(Drop)]
+#[derive(Clone, Copy)]
 pub enum Commons {
     // The places that are nobody's reserve, and how many of them are used.
     Shared(usize, usize),
