@@ -25,7 +25,7 @@ use Rattle.lookup.specs.Answers.{entry_fault, table_fault, record_found, found_i
 use Rattle.lookup.proofs.HalfDegree.{temperature_stays}
 use Rattle.lookup.proofs.Rank.{asked_tells, asked_is}
 use Rattle.lookup.proofs.Sound.{NoFault}
-use Rattle.lookup.proofs.Outcome.{place_found, rest_judged, not_whole}
+use Rattle.lookup.proofs.Outcome.{few_entries, place_found, rest_judged, not_whole}
 use Rattle.lookup.proofs.look_up.Lts.View as view
 use Rattle.lookup.proofs.look_up.Goals.{After-are_entries, After-or_else, After-rank_asked-wanted, In-Fine, Start, Then-table-are_entries}
 use Rattle.lookup.proofs.look_up.Goals as goal
@@ -76,10 +76,12 @@ found c =
     ap (record_found s) (sym (place_found s n t (half_degree a.gravity) each (temperature_stays a.temperature (both_first (temperature_ok a.temperature) (gravity_ok a.gravity) ok)) sought))
 
 pub pass_over-pass-requires : goal.pass_over-pass-requires
-pass_over-pass-requires c = ?
+unfolding records_in
+pass_over-pass-requires c = few_entries c.args.table.now (whole (goal.at.pass_over-pass-requires c).Then-table-are_entries)
 
 pub answer-requires : goal.answer-requires
-answer-requires c = ?
+unfolding records_in
+answer-requires c = few_entries c.args.table.now (whole (goal.at.answer-requires c).Then-table-are_entries)
 
 pub returns-in-Fine : goal.returns-in-Fine
 unfolding look_up_of records_in
