@@ -3,25 +3,12 @@ use mathlib.Core.List.{List, ◌++◌}
 use mathlib.Core.Path.{◌≡◌, ap, sym, ◌∙◌}
 use Prim.Native.Nat.{ℕ, ◌+◌, ◌*◌, ◌-◌, ◌≤◌}
 use native.Mathlib.Omega.{arith}
-use borrow.Author.Rules.{rules}
 use lib.ListN.{length, take, drop, replicate, length-append, length-replicate}
 use Rattle.octets.specs.Octets.{long_at, bytes_of, written_at}
 use Rattle.octets.proofs.Laws.{length_bytes, written_both}
 use Rattle.moving.proofs.Laws.{part_length}
 use Rattle.moving.specs.Moved.{lengthened}
-use Rattle.moving.proofs.lengthen.Tie as tie
-
-abbrev second : tie.After-write-at3 → tie.After-write-at2
-second c = c.before.before.before.before.before
-
-abbrev first : tie.After-write-at2 → tie.After-write-at
-first c = c.before.before.before.before.before
-
-abbrev counted : tie.After-write-at → tie.After-quad-bytes
-counted c = c.before.before.before
-
-abbrev start : tie.After-quad-bytes → tie.Start
-start c = c.before.before.before.before
+use Rattle.moving.proofs.lengthen.Goals as goal
 
 -- what is written behind what was, and then the zeros
 all-written : (s to : List ℕ) (i : ℕ) → 32 * i + 32 ≤ length s → 48 * i + 48 ≤ length to
@@ -39,26 +26,14 @@ all-written s to i lent room =
     ∙ ap (λ (n : ℕ). written_at (written_at to (48 * i) (count ++ part)) (48 * i + n) (replicate 12 0)) (sym both)
     ∙ written_both to (48 * i) (count ++ part) (replicate 12 0) (omega (arith, both, zeros))
 
-returns : tie.Need-returns
-returns c =
-    let w = c.before.before in
-    let v = second w in
-    let u = first v in
-    let q = counted u in
-    let a = (start q).args in
+pub returns : goal.returns
+returns c = let a = c.args in
     let s = a.records.now in
     let to = a.buffer.now in
     let i = a.i in
-    let count = q.quad-bytes.ensures ∙ ap (λ (n : ℕ). bytes_of 8 (n * 1000)) q.before.long-at.ensures in
+    let count = c.quad_bytes-pulses.ensures ∙ ap (λ (n : ℕ). bytes_of 8 (n * 1000)) c.long_at.ensures in
     let size : 32 * i + 32 - (32 * i + 4) ≡ 28 = omega arith in
-    w.write-at3.ensures
-    ∙ ap (λ (l : List ℕ). written_at l (48 * i + 36) (replicate 12 0)) v.write-at2.ensures
-    ∙ (λ t. written_at (written_at ((u.write-at.ensures ∙ ap (written_at to (48 * i)) count) t) (48 * i + 8) (take (size t) (drop (32 * i + 4) s))) (48 * i + 36) (replicate 12 0))
-    ∙ all-written s to i (start q).pre.1 (start q).pre.2
-
-pub lengthen-spec : {M : Type 1} → Rattle.moving.proofs.lengthen.Statement.statement M
-lengthen-spec =
-    tie.close
-    (tie.spec (search rules) (search rules) (search rules) (search rules) (search rules) (search rules) (search rules) (search rules) (search rules)
-    (search rules) (search rules) (search rules) (search rules) (search rules) (search rules) (search rules) (search rules) (search rules)
-    (search rules) returns)
+    c.write_at-3.ensures
+    ∙ ap (λ (l : List ℕ). written_at l (48 * i + 36) (replicate 12 0)) c.write_at-2.ensures
+    ∙ (λ t. written_at (written_at ((c.write_at.ensures ∙ ap (written_at to (48 * i)) count) t) (48 * i + 8) (take (size t) (drop (32 * i + 4) s))) (48 * i + 36) (replicate 12 0))
+    ∙ all-written s to i c.requires.1 c.requires.2
