@@ -17,7 +17,7 @@ mod passing;
 mod profiles;
 
 // The type of a prover: its displacer passes in one direction, or out and back.
-#[derive(Drop)]
+#[derive(Clone, Copy)]
 pub enum Profile {
     Unidirectional,
     Bidirectional,
@@ -25,7 +25,7 @@ pub enum Profile {
 
 // A fill record as it stands in its bytes: volumes in 0.01 cubic inch, temperatures in 0.1 °F, the
 // measure's coefficient in 10^-7 per °F, CTDW at 6 places, the pressure in psi gage.
-#[derive(Drop)]
+#[derive(Clone, Copy)]
 struct FillRecord {
     certified: u32,
     scale: i16,
@@ -39,7 +39,7 @@ struct FillRecord {
 
 // One fill's figures: the adjusted measure, CTS of the measure and of the prover, CCTS, and the volume
 // drawn.
-#[derive(Drop)]
+#[derive(Clone, Copy)]
 pub struct FillFigures {
     pub adjusted: u64,
     pub measure: u64,
@@ -48,14 +48,14 @@ pub struct FillFigures {
     pub drawn: u64,
 }
 
-#[derive(Drop)]
+#[derive(Clone, Copy)]
 pub enum FillAnswer {
     Figures(FillFigures),
     Refused(Refusal),
 }
 
 // How many volumes there are: of passes, or of round trips.
-#[derive(Drop)]
+#[derive(Clone, Copy)]
 pub enum Counted {
     Volumes(u8),
     Refused(Refusal),
@@ -63,21 +63,21 @@ pub enum Counted {
 
 // Each volume, in the order of passes or round trips, and zeros after the last; zeros alone beside a
 // refusal.
-#[derive(Drop)]
+#[derive(Clone, Copy)]
 pub struct DrawVolumes {
     pub answer: Counted,
     pub volumes: [u64; 20],
 }
 
 // The base volume, the same in 0.0001 barrel, and the first pass used, from 1.
-#[derive(Drop)]
+#[derive(Clone, Copy)]
 pub struct BaseVolume {
     pub base: u64,
     pub barrels: u64,
     pub first: u8,
 }
 
-#[derive(Drop)]
+#[derive(Clone, Copy)]
 pub enum WaterDraw {
     Drawn(BaseVolume),
     Refused(Refusal),

@@ -84,8 +84,8 @@ fn answer_prove(
     second: &mut [u8],
     out: &mut [u8],
 ) -> usize {
-    let size = hex::read_bytes(words::word(line, 10), first);
-    let count = hex::read_bytes(words::word(line, 11), second);
+    let size = hex_words::read_bytes(words::word(line, 10), first);
+    let count = hex_words::read_bytes(words::word(line, 11), second);
     prove_into(form, line, &second[..count], &mut first[..size], out)
 }
 
@@ -117,8 +117,8 @@ fn answer_move(
     second: &mut [u8],
     out: &mut [u8],
 ) -> usize {
-    let size = hex::read_bytes(words::word(line, 1), first);
-    let count = hex::read_bytes(words::word(line, 2), second);
+    let size = hex_words::read_bytes(words::word(line, 1), first);
+    let count = hex_words::read_bytes(words::word(line, 2), second);
     move_into(form, &second[..count], &mut first[..size], out)
 }
 
@@ -309,7 +309,7 @@ fn write_into(line: &[u8], buffer: &mut [u8], out: &mut [u8]) -> usize {
 }
 
 fn answer_write(line: &[u8], first: &mut [u8], out: &mut [u8]) -> usize {
-    let size = hex::read_bytes(words::word(line, 9), first);
+    let size = hex_words::read_bytes(words::word(line, 9), first);
     write_into(line, &mut first[..size], out)
 }
 
@@ -366,7 +366,7 @@ fn find_last(count: usize) -> usize {
 
 fn answer_lent(entry: usize, line: &[u8], room: &mut [u8], out: &mut [u8]) -> usize {
     let last = find_last(words::count_words(line));
-    let count = hex::read_bytes(words::word(line, last), room);
+    let count = hex_words::read_bytes(words::word(line, last), room);
     answer_records(entry, line, &room[..count], out)
 }
 

@@ -1,10 +1,12 @@
 // The input taken a step at a time: a step reads a chunk, or holds what the chunk has of the present line.
 ghost use Rattle.std.specs.Prelude.{◌≤◌, length};
 
+use std::io::{self, Read};
+
 // What of the chunk is still to take (from `from` up to `count`), how many bytes of the present line
 // are held (one more than the line's room is a line that is too long), whether it is whole, and
 // whether the input has ended.
-#[derive(Drop)]
+#[derive(Clone, Copy)]
 pub(crate) struct Held {
     pub(crate) from: usize,
     pub(crate) count: usize,
@@ -58,17 +60,16 @@ fn gather(piece: &[u8], line: &mut [u8], length: usize) -> usize {
     length + piece.len()
 }
 
-// A read that fails or brings nothing ends the input, and with it the line that is held.
-fn read_chunk(length: usize, chunk: &mut [u8]) -> Held {
-    let got = libc::read(0, chunk);
-    let count = io::count(got, chunk);
-    Held {
+// A read that brings nothing ends the input, and with it the line that is held.
+fn read_chunk(length: usize, reader: &mut impl Read, chunk: &mut [u8]) -> io::Result<Held> {
+    let count = reader.read(chunk)?;
+    Ok(Held {
         from: 0,
         count,
         length,
         whole: count == 0,
         ended: count == 0,
-    }
+    })
 }
 
 // Up to the line's end, or all that is left of the chunk.
@@ -89,14 +90,19 @@ fn step(at: usize, by: usize) -> usize {
     if by <= usize::MAX - at { at + by } else { at }
 }
 
-pub(crate) fn go_on(held: Held, chunk: &mut [u8], line: &mut [u8]) -> Held {
+pub(crate) fn go_on(
+    held: Held,
+    reader: &mut impl Read,
+    chunk: &mut [u8],
+    line: &mut [u8],
+) -> io::Result<Held> {
     let length = if held.whole { 0 } else { held.length };
     let from = held.from;
     let count = held.count;
     if count <= from {
-        return read_chunk(length, chunk);
+        return read_chunk(length, reader, chunk);
     }
-    take_line(from, length, part(chunk, 0, count), line)
+    Ok(take_line(from, length, part(chunk, 0, count), line))
 }
 
 pub(crate) fn is_too_long(held: Held, line: &[u8]) -> bool {

@@ -43,7 +43,7 @@ pub(crate) fn places_at(line: &[u8], n: usize) -> Places {
 }
 
 pub(crate) fn single_at(line: &[u8], n: usize) -> f32 {
-    live::channels::from_bits(hex::read_single(words::word(line, n)))
+    live::channels::from_bits(hex_words::read_single(words::word(line, n)))
 }
 
 // The place of a word among as many as are known, or their count.

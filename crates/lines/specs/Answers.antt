@@ -5,7 +5,7 @@ use Rattle.refusals.specs.Table.{number_of, record_of}
 use Rattle.refusals.specs.declared.Refusal.{Refusal}
 use Rattle.words.specs.Written.{place_after}
 use Rattle.numerals.specs.Numbers.{printed}
-use Rattle.hex.specs.Hex.{hex_word}
+use Rattle.hex_words.specs.Hex.{hex_word}
 
 -- the place after all pieces, written one behind the other from a place on
 unfoldable pub place_all : List ℕ → ℕ → List (List ℕ) → ℕ

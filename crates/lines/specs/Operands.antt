@@ -3,7 +3,7 @@ use Rattle.std.specs.Prelude.{Bool, true, false, cond, ◌&&◌, ◌||◌, List,
 use Rattle.std.proofs.Math.Option.{Option, none, some}
 use Rattle.words.specs.Words.{word_of, word_count}
 use Rattle.numerals.specs.Numbers.{number_of, signed_of}
-use Rattle.hex.specs.Hex.{are_bytes, is_single}
+use Rattle.hex_words.specs.Hex.{are_bytes, is_single}
 
 abbrev pub is_number : Option ℕ → Bool
 is_number none = false

@@ -32,7 +32,7 @@ pub fn add_bytes(bytes: &[u8], out: &mut [u8], at: usize) -> usize
     ensures left { out.new ≡ written_all out.old at (bytes_spelt bytes.now) }
 {
     let first = words::write_text(b" ", out, at);
-    hex::write_bytes(bytes, out, first)
+    hex_words::write_bytes(bytes, out, first)
 }
 
 // `ok` and the values, from the start.

@@ -42,8 +42,8 @@ fn is_kind(word: &[u8], kind: u8) -> bool
         b'd' => is_number(numerals::read_number(word, 18446744073709551615)),
         b's' => is_signed(numerals::read_signed(word)),
         b'p' => is_places(word),
-        b'x' => hex::are_bytes(word),
-        b'f' => hex::is_single(word),
+        b'x' => hex_words::are_bytes(word),
+        b'f' => hex_words::is_single(word),
         _ => false,
     }
 }

@@ -6,11 +6,11 @@ use Rattle.numerals.proofs.read_number.Reads as numerals-read-number
 use Rattle.numerals.proofs.read_signed.Reads as numerals-read-signed
 use Rattle.numerals.proofs.write_number.Reads as numerals-write-number
 use Rattle.numerals.proofs.write_signed.Reads as numerals-write-signed
-use Rattle.hex.proofs.are_bytes.Reads as hex-are-bytes
-use Rattle.hex.proofs.read_bytes.Reads as hex-read-bytes
-use Rattle.hex.proofs.is_single.Reads as hex-is-single
-use Rattle.hex.proofs.read_single.Reads as hex-read-single
-use Rattle.hex.proofs.write_bytes.Reads as hex-write-bytes
+use Rattle.hex_words.proofs.are_bytes.Reads as hex-are-bytes
+use Rattle.hex_words.proofs.read_bytes.Reads as hex-read-bytes
+use Rattle.hex_words.proofs.is_single.Reads as hex-is-single
+use Rattle.hex_words.proofs.read_single.Reads as hex-read-single
+use Rattle.hex_words.proofs.write_bytes.Reads as hex-write-bytes
 use Rattle.lines.proofs.operands.has_form.Reads as lines-has-form
 use Rattle.lines.proofs.operands.number_at.Reads as lines-number-at
 use Rattle.lines.proofs.answers.add_numbers.Reads as lines-add-numbers
