@@ -9,7 +9,7 @@ ghost use Rattle.api.specs.Flat.{flat_done, flat_taken, flat_commons};
 use book::{Book, Change, Commons, Figures, Handout};
 
 #[repr(C)]
-#[derive(Drop)]
+#[derive(Clone, Copy)]
 pub struct EndakuroDone {
     pub number: u16,
     pub at: u16,
@@ -17,7 +17,7 @@ pub struct EndakuroDone {
 
 // The request handed out, and its shipper.
 #[repr(C)]
-#[derive(Drop)]
+#[derive(Clone, Copy)]
 pub struct EndakuroTaken {
     pub number: u16,
     pub at: u16,
@@ -27,7 +27,7 @@ pub struct EndakuroTaken {
 
 // The shared places, and how many of them are used.
 #[repr(C)]
-#[derive(Drop)]
+#[derive(Clone, Copy)]
 pub struct EndakuroCommons {
     pub number: u16,
     pub at: u16,
@@ -36,14 +36,14 @@ pub struct EndakuroCommons {
 }
 
 // The book left by a request, a withdrawal or a setting, and its answer.
-#[derive(Drop)]
+#[derive(Clone, Copy)]
 struct Changed {
     book: Book,
     answer: EndakuroDone,
 }
 
 // The book left by a take, and its answer.
-#[derive(Drop)]
+#[derive(Clone, Copy)]
 struct Served {
     book: Book,
     answer: EndakuroTaken,
@@ -162,16 +162,14 @@ fn judge(book: Book) -> bool
 }
 
 // A new book: nothing waits in it.
-#[unsafe(no_mangle)]
-pub extern "C" fn endakuro_empty() -> Book
+pub fn endakuro_empty() -> Book
     ensures { result ≡ empty_book }
 {
     Book::empty()
 }
 
 // A shipper asks that a request waits.
-#[unsafe(no_mangle)]
-pub extern "C" fn endakuro_request(kept: &mut Book, shipper: u8, number: u32) -> EndakuroDone
+pub fn endakuro_request(kept: &mut Book, shipper: u8, number: u32) -> EndakuroDone
     ensures { (result ≡ flat_done (request_of kept.old shipper number)) × (kept.new ≡ after_request kept.old shipper number) }
 {
     let done = enter(*kept, shipper, number);
@@ -180,8 +178,7 @@ pub extern "C" fn endakuro_request(kept: &mut Book, shipper: u8, number: u32) ->
 }
 
 // A shipper takes a request back.
-#[unsafe(no_mangle)]
-pub extern "C" fn endakuro_withdraw(kept: &mut Book, shipper: u8, number: u32) -> EndakuroDone
+pub fn endakuro_withdraw(kept: &mut Book, shipper: u8, number: u32) -> EndakuroDone
     ensures { (result ≡ flat_done (withdrawal_of kept.old shipper number)) × (kept.new ≡ after_withdrawal kept.old shipper number) }
 {
     let done = remove(*kept, shipper, number);
@@ -190,8 +187,7 @@ pub extern "C" fn endakuro_withdraw(kept: &mut Book, shipper: u8, number: u32) -
 }
 
 // The prover is free: the next request is handed out.
-#[unsafe(no_mangle)]
-pub extern "C" fn endakuro_take(kept: &mut Book) -> EndakuroTaken
+pub fn endakuro_take(kept: &mut Book) -> EndakuroTaken
     ensures { (result ≡ flat_taken (take_of kept.old)) × (kept.new ≡ after_take kept.old) }
 {
     let done = serve(*kept);
@@ -200,8 +196,7 @@ pub extern "C" fn endakuro_take(kept: &mut Book) -> EndakuroTaken
 }
 
 // Figures are set on an empty book.
-#[unsafe(no_mangle)]
-pub extern "C" fn endakuro_set_figures(kept: &mut Book, figures: Figures) -> EndakuroDone
+pub fn endakuro_set_figures(kept: &mut Book, figures: Figures) -> EndakuroDone
     ensures { (result ≡ flat_done (setting_of kept.old figures)) × (kept.new ≡ after_setting kept.old figures) }
 {
     let done = agree(*kept, figures);
@@ -210,16 +205,14 @@ pub extern "C" fn endakuro_set_figures(kept: &mut Book, figures: Figures) -> End
 }
 
 // The shared places, and how many of them are used.
-#[unsafe(no_mangle)]
-pub extern "C" fn endakuro_commons(kept: &Book) -> EndakuroCommons
+pub fn endakuro_commons(kept: &Book) -> EndakuroCommons
     ensures { result ≡ flat_commons (commons_of kept.now) }
 {
     share(*kept)
 }
 
 // Whether a book offered from outside is sound.
-#[unsafe(no_mangle)]
-pub extern "C" fn endakuro_is_sound(kept: &Book) -> bool
+pub fn endakuro_is_sound(kept: &Book) -> bool
     ensures { result ≡ is_sound kept.now }
 {
     judge(*kept)

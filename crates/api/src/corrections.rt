@@ -10,7 +10,7 @@ ghost use Rattle.api.specs.Flat.{flat_factor};
 use factors::{Factor, Liquid, Pipe, Places};
 
 #[repr(C)]
-#[derive(Drop)]
+#[derive(Clone, Copy)]
 pub struct EndakuroFactor {
     pub number: u16,
     pub at: u16,
@@ -68,50 +68,39 @@ fn work_out_cpl(p: u16, f: u16, pe: u16, places: Places) -> EndakuroFactor
 }
 
 // T in 0.1 °F.
-#[unsafe(no_mangle)]
-pub extern "C" fn endakuro_cts_four(t: i16, metal: u8, coefficient: u16) -> EndakuroFactor
+pub fn endakuro_cts_four(t: i16, metal: u8, coefficient: u16) -> EndakuroFactor
     ensures { result ≡ flat_factor (cts_of 4 (metal_by metal coefficient) t) }
 {
     work_out_cts(t, metal, coefficient, Places::Four)
 }
 
-#[unsafe(no_mangle)]
-pub extern "C" fn endakuro_cts_six(t: i16, metal: u8, coefficient: u16) -> EndakuroFactor
+pub fn endakuro_cts_six(t: i16, metal: u8, coefficient: u16) -> EndakuroFactor
     ensures { result ≡ flat_factor (cts_of 6 (metal_by metal coefficient) t) }
 {
     work_out_cts(t, metal, coefficient, Places::Six)
 }
 
 // P in psi gage, diameter and wall in 0.001 inch, modulus in psi.
-#[unsafe(no_mangle)]
-pub extern "C" fn endakuro_cps_four(
-    p: u16,
-    diameter: u32,
-    wall: u32,
-    modulus: u32,
-) -> EndakuroFactor
+pub fn endakuro_cps_four(p: u16, diameter: u32, wall: u32, modulus: u32) -> EndakuroFactor
     ensures { result ≡ flat_factor (cps_of 4 (pipe_by diameter wall modulus) p) }
 {
     work_out_cps(p, diameter, wall, modulus, Places::Four)
 }
 
-#[unsafe(no_mangle)]
-pub extern "C" fn endakuro_cps_six(p: u16, diameter: u32, wall: u32, modulus: u32) -> EndakuroFactor
+pub fn endakuro_cps_six(p: u16, diameter: u32, wall: u32, modulus: u32) -> EndakuroFactor
     ensures { result ≡ flat_factor (cps_of 6 (pipe_by diameter wall modulus) p) }
 {
     work_out_cps(p, diameter, wall, modulus, Places::Six)
 }
 
 // P and Pe in psi gage, F in 10^-8 per psi.
-#[unsafe(no_mangle)]
-pub extern "C" fn endakuro_cpl_four(p: u16, f: u16, pe: u16) -> EndakuroFactor
+pub fn endakuro_cpl_four(p: u16, f: u16, pe: u16) -> EndakuroFactor
     ensures { result ≡ flat_factor (cpl_of 4 (liquid_by p f pe)) }
 {
     work_out_cpl(p, f, pe, Places::Four)
 }
 
-#[unsafe(no_mangle)]
-pub extern "C" fn endakuro_cpl_six(p: u16, f: u16, pe: u16) -> EndakuroFactor
+pub fn endakuro_cpl_six(p: u16, f: u16, pe: u16) -> EndakuroFactor
     ensures { result ≡ flat_factor (cpl_of 6 (liquid_by p f pe)) }
 {
     work_out_cpl(p, f, pe, Places::Six)

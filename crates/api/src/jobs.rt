@@ -16,7 +16,7 @@ use run::{Form, Worked};
 
 // A part of the lent records, in bytes; both are 0 where there is none.
 #[repr(C)]
-#[derive(Drop)]
+#[derive(Clone, Copy)]
 pub struct EndakuroPart {
     pub start: usize,
     pub length: usize,
@@ -24,7 +24,7 @@ pub struct EndakuroPart {
 
 // One run's figures, at 4 places; volumes are in 0.0001 barrel.
 #[repr(C)]
-#[derive(Drop)]
+#[derive(Clone, Copy)]
 pub struct EndakuroRun {
     pub number: u16,
     pub at: u16,
@@ -59,8 +59,7 @@ fn prove(
 }
 
 // A job of short records.
-#[unsafe(no_mangle)]
-pub extern "C" fn endakuro_prove(
+pub fn endakuro_prove(
     request: u32,
     prover: EndakuroProver,
     k: u32,
@@ -75,8 +74,7 @@ pub extern "C" fn endakuro_prove(
 }
 
 // A job of long records.
-#[unsafe(no_mangle)]
-pub extern "C" fn endakuro_prove_long(
+pub fn endakuro_prove_long(
     request: u32,
     prover: EndakuroProver,
     k: u32,
@@ -112,21 +110,14 @@ fn accept(form: Form, prover: EndakuroProver, k: u32, limit: u16, records: &[u8]
 }
 
 // The accepted runs of a job of short records.
-#[unsafe(no_mangle)]
-pub extern "C" fn endakuro_accept(
-    prover: EndakuroProver,
-    k: u32,
-    limit: u16,
-    records: &[u8],
-) -> EndakuroPart
+pub fn endakuro_accept(prover: EndakuroProver, k: u32, limit: u16, records: &[u8]) -> EndakuroPart
     ensures { result ≡ part_of Short (found_of (prover_by prover) k limit Short records.now) }
 {
     accept(Form::Short, prover, k, limit, records)
 }
 
 // The accepted runs of a job of long records.
-#[unsafe(no_mangle)]
-pub extern "C" fn endakuro_accept_long(
+pub fn endakuro_accept_long(
     prover: EndakuroProver,
     k: u32,
     limit: u16,
@@ -188,16 +179,14 @@ fn show(form: Form, prover: EndakuroProver, k: u32, bytes: &[u8]) -> EndakuroRun
 }
 
 // One run from its short record.
-#[unsafe(no_mangle)]
-pub extern "C" fn endakuro_run(prover: EndakuroProver, k: u32, bytes: &[u8]) -> EndakuroRun
+pub fn endakuro_run(prover: EndakuroProver, k: u32, bytes: &[u8]) -> EndakuroRun
     ensures { result ≡ flat_run (shown_of (prover_by prover) k Short bytes.now) }
 {
     show(Form::Short, prover, k, bytes)
 }
 
 // One run from its long record.
-#[unsafe(no_mangle)]
-pub extern "C" fn endakuro_run_long(prover: EndakuroProver, k: u32, bytes: &[u8]) -> EndakuroRun
+pub fn endakuro_run_long(prover: EndakuroProver, k: u32, bytes: &[u8]) -> EndakuroRun
     ensures { result ≡ flat_run (shown_of (prover_by prover) k Long bytes.now) }
 {
     show(Form::Long, prover, k, bytes)

@@ -7,7 +7,7 @@ use lookup::LookUp;
 
 // The record found: temperature in 0.1 °F, gravity in 0.1 °API, F in 10^-8 per psi.
 #[repr(C)]
-#[derive(Drop)]
+#[derive(Clone, Copy)]
 pub struct EndakuroEntry {
     pub number: u16,
     pub at: u16,
@@ -41,8 +41,7 @@ fn flatten(found: LookUp) -> EndakuroEntry
 }
 
 // 0.1 °F and 0.1 °API, each taken to the nearest half degree, in a table of 8-byte records.
-#[unsafe(no_mangle)]
-pub extern "C" fn endakuro_look_up(temperature: i16, gravity: u16, table: &[u8]) -> EndakuroEntry
+pub fn endakuro_look_up(temperature: i16, gravity: u16, table: &[u8]) -> EndakuroEntry
     ensures { result ≡ flat_entry (look_up_of temperature gravity table.now) }
 {
     flatten(lookup::look_up(temperature, gravity, table))

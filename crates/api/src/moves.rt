@@ -11,7 +11,7 @@ use moving::Moved;
 
 // How many records were moved.
 #[repr(C)]
-#[derive(Drop)]
+#[derive(Clone, Copy)]
 pub struct EndakuroMoved {
     pub number: u16,
     pub at: u16,
@@ -39,8 +39,7 @@ fn flatten(moved: Moved) -> EndakuroMoved
 }
 
 // Short records into a buffer of long ones, or every byte of it left as found.
-#[unsafe(no_mangle)]
-pub extern "C" fn endakuro_forward(records: &[u8], buffer: &mut [u8]) -> EndakuroMoved
+pub fn endakuro_forward(records: &[u8], buffer: &mut [u8]) -> EndakuroMoved
     ensures answer { result ≡ flat_moved (move_of Short records.now (length buffer.old)) }
     ensures left { buffer.new ≡ left_by (move_of Short records.now (length buffer.old)) (moved_bytes Short records.now) buffer.old }
 {
@@ -48,8 +47,7 @@ pub extern "C" fn endakuro_forward(records: &[u8], buffer: &mut [u8]) -> Endakur
 }
 
 // Long records into a buffer of short ones, where every count is whole.
-#[unsafe(no_mangle)]
-pub extern "C" fn endakuro_back(records: &[u8], buffer: &mut [u8]) -> EndakuroMoved
+pub fn endakuro_back(records: &[u8], buffer: &mut [u8]) -> EndakuroMoved
     ensures answer { result ≡ flat_moved (move_of Long records.now (length buffer.old)) }
     ensures left { buffer.new ≡ left_by (move_of Long records.now (length buffer.old)) (moved_bytes Long records.now) buffer.old }
 {

@@ -7,7 +7,7 @@ use live::panel::Panel;
 
 // °F, or psi gage.
 #[repr(C)]
-#[derive(Drop)]
+#[derive(Clone, Copy)]
 pub struct EndakuroPanel {
     pub number: u16,
     pub at: u16,
@@ -35,16 +35,14 @@ fn flatten(panel: Panel) -> EndakuroPanel
 }
 
 // 0.1 °F.
-#[unsafe(no_mangle)]
-pub extern "C" fn endakuro_panel_temperature(tenths: i16) -> EndakuroPanel
+pub fn endakuro_panel_temperature(tenths: i16) -> EndakuroPanel
     ensures { result ≡ flat_panel (panel_temperature_of tenths) }
 {
     flatten(live::panel::show_temperature(tenths))
 }
 
 // psi gage.
-#[unsafe(no_mangle)]
-pub extern "C" fn endakuro_panel_pressure(psi: u16) -> EndakuroPanel
+pub fn endakuro_panel_pressure(psi: u16) -> EndakuroPanel
     ensures { result ≡ flat_panel (panel_pressure_of psi) }
 {
     flatten(live::panel::show_pressure(psi))

@@ -6,7 +6,7 @@ ghost use Rattle.api.specs.Flat.{flat_quotient};
 use exact::Quotient;
 
 #[repr(C)]
-#[derive(Drop)]
+#[derive(Clone, Copy)]
 pub struct EndakuroQuotient {
     pub value: u64,
     // 0 with the value; 1 for a zero divisor and 2 for more than 64 bits, with value 0
@@ -14,8 +14,7 @@ pub struct EndakuroQuotient {
 }
 
 // a * b / d to the nearest whole number, halves up.
-#[unsafe(no_mangle)]
-pub extern "C" fn endakuro_rounded_ratio(a: u64, b: u64, d: u64) -> EndakuroQuotient
+pub fn endakuro_rounded_ratio(a: u64, b: u64, d: u64) -> EndakuroQuotient
     ensures { result ≡ flat_quotient (quotient_of (a * b) d) }
 {
     let quotient = exact::rounded_ratio(a, b, d);

@@ -10,7 +10,7 @@ use live::{Live, Reading};
 
 // Tenths of °F and whole psi gage.
 #[repr(C)]
-#[derive(Drop)]
+#[derive(Clone, Copy)]
 pub struct EndakuroLive {
     pub number: u16,
     pub at: u16,
@@ -41,8 +41,7 @@ fn flatten(live: Live) -> EndakuroLive
 }
 
 // °F and psi gage, any single: what is not finite is refused 12.
-#[unsafe(no_mangle)]
-pub extern "C" fn endakuro_live(temperature: f32, pressure: f32) -> EndakuroLive
+pub fn endakuro_live(temperature: f32, pressure: f32) -> EndakuroLive
     ensures { result ≡ flat_live (live_of temperature pressure) }
 {
     let reading = Reading {
@@ -55,7 +54,7 @@ pub extern "C" fn endakuro_live(temperature: f32, pressure: f32) -> EndakuroLive
 // By its kind, 0 °F, 1 °C, 2 psi gage or 3 a fault, and the bits of its single; the code of a fault is their
 // lowest byte.
 #[repr(C)]
-#[derive(Drop)]
+#[derive(Clone, Copy)]
 pub struct EndakuroChannel {
     pub kind: u32,
     pub bits: u32,
@@ -75,11 +74,7 @@ fn channel_by(given: EndakuroChannel, misplaced: Channel) -> Channel
     }
 }
 
-#[unsafe(no_mangle)]
-pub extern "C" fn endakuro_channels(
-    temperature: EndakuroChannel,
-    pressure: EndakuroChannel,
-) -> EndakuroLive
+pub fn endakuro_channels(temperature: EndakuroChannel, pressure: EndakuroChannel) -> EndakuroLive
     ensures { result ≡ flat_live (channels_of (temperature_by temperature) (pressure_by pressure)) }
 {
     let first = channel_by(temperature, Channel::Pressure(0.0));

@@ -10,7 +10,7 @@ use report::{Answer, Factors};
 
 // Five consecutive run factors, in 0.0001.
 #[repr(C)]
-#[derive(Drop)]
+#[derive(Clone, Copy)]
 pub struct EndakuroFactors {
     pub f1: u16,
     pub f2: u16,
@@ -20,7 +20,7 @@ pub struct EndakuroFactors {
 }
 
 #[repr(C)]
-#[derive(Drop)]
+#[derive(Clone, Copy)]
 pub struct EndakuroReport {
     pub number: u16,
     pub at: u16,
@@ -80,8 +80,7 @@ pub(crate) fn flatten(answer: Answer) -> EndakuroReport
 }
 
 // Writes the report of a job into the lent 32 bytes, or leaves every byte as found.
-#[unsafe(no_mangle)]
-pub extern "C" fn endakuro_write(
+pub fn endakuro_write(
     request: u32,
     runs: u8,
     first: u8,
@@ -101,8 +100,7 @@ pub extern "C" fn endakuro_write(
     flatten(report::write(request, runs, first, five, buffer))
 }
 
-#[unsafe(no_mangle)]
-pub extern "C" fn endakuro_read(bytes: &[u8]) -> EndakuroReport
+pub fn endakuro_read(bytes: &[u8]) -> EndakuroReport
     ensures { result ≡ flat_report (read_of bytes.now) }
 {
     flatten(report::read(bytes))

@@ -7,7 +7,7 @@ use factors::{Pipe, Prover};
 // Base volume in 0.0001 barrel, diameter and wall in 0.001 inch, modulus in psi, the certified coefficient
 // in 10^-7 per °F (0: none), and the metal by its code: 0 mild carbon, 1 304, 2 316, 3 17-4 PH, 4 none named.
 #[repr(C)]
-#[derive(Drop)]
+#[derive(Clone, Copy)]
 pub struct EndakuroProver {
     pub base: u32,
     pub diameter: u32,

@@ -10,7 +10,7 @@ use ticket::{Measured, Ticket};
 // Readings in 0.01 barrel, the meter factor and CTL in 0.0001, P and Pe in psi gage, F in 10^-8 per psi, S in
 // 0.001 %.
 #[repr(C)]
-#[derive(Drop)]
+#[derive(Clone, Copy)]
 pub struct EndakuroTicket {
     pub opening: u32,
     pub closing: u32,
@@ -24,7 +24,7 @@ pub struct EndakuroTicket {
 
 // The factor in 0.0001, gross standard and net volume in 0.01 barrel.
 #[repr(C)]
-#[derive(Drop)]
+#[derive(Clone, Copy)]
 pub struct EndakuroVolumes {
     pub number: u16,
     pub at: u16,
@@ -57,8 +57,7 @@ fn flatten(measured: Measured) -> EndakuroVolumes
     }
 }
 
-#[unsafe(no_mangle)]
-pub extern "C" fn endakuro_ticket(given: EndakuroTicket) -> EndakuroVolumes
+pub fn endakuro_ticket(given: EndakuroTicket) -> EndakuroVolumes
     ensures { result ≡ flat_volumes (ticket_of (ticket_by given)) }
 {
     let liquid = Liquid {

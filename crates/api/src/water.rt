@@ -13,7 +13,7 @@ use draw::{Counted, FillAnswer, Profile, WaterDraw};
 
 // The adjusted measure, CTS of the measure and of the prover, CCTS, and the volume drawn.
 #[repr(C)]
-#[derive(Drop)]
+#[derive(Clone, Copy)]
 pub struct EndakuroFill {
     pub number: u16,
     pub at: u16,
@@ -26,7 +26,7 @@ pub struct EndakuroFill {
 
 // The volumes of passes, or of round trips, in their order, and zeros after the last.
 #[repr(C)]
-#[derive(Drop)]
+#[derive(Clone, Copy)]
 pub struct EndakuroPasses {
     pub number: u16,
     pub at: u16,
@@ -36,7 +36,7 @@ pub struct EndakuroPasses {
 
 // The base volume, the same in 0.0001 barrel, and the first pass used, from 1.
 #[repr(C)]
-#[derive(Drop)]
+#[derive(Clone, Copy)]
 pub struct EndakuroDraw {
     pub number: u16,
     pub at: u16,
@@ -74,8 +74,7 @@ fn flatten_fill(answer: FillAnswer) -> EndakuroFill
 }
 
 // One fill's figures from its record alone.
-#[unsafe(no_mangle)]
-pub extern "C" fn endakuro_fill(metal: u8, coefficient: u16, bytes: &[u8]) -> EndakuroFill
+pub fn endakuro_fill(metal: u8, coefficient: u16, bytes: &[u8]) -> EndakuroFill
     ensures { result ≡ flat_fill (fill_of (metal_by metal coefficient) bytes.now) }
 {
     let chosen = factors::choose_metal(metal, coefficient);
@@ -114,16 +113,14 @@ fn list_volumes(profile: Profile, prover: EndakuroProver, records: &[u8]) -> End
 }
 
 // The volumes of all passes. The prover's base volume is not judged here and in the draws.
-#[unsafe(no_mangle)]
-pub extern "C" fn endakuro_passes(prover: EndakuroProver, records: &[u8]) -> EndakuroPasses
+pub fn endakuro_passes(prover: EndakuroProver, records: &[u8]) -> EndakuroPasses
     ensures { result ≡ flat_passes (count_of Unidirectional (prover_by prover) records.now) (held_for Unidirectional (prover_by prover) records.now) }
 {
     list_volumes(Profile::Unidirectional, prover, records)
 }
 
 // The volumes of all round trips of a bidirectional prover.
-#[unsafe(no_mangle)]
-pub extern "C" fn endakuro_trips(prover: EndakuroProver, records: &[u8]) -> EndakuroPasses
+pub fn endakuro_trips(prover: EndakuroProver, records: &[u8]) -> EndakuroPasses
     ensures { result ≡ flat_passes (count_of Bidirectional (prover_by prover) records.now) (held_for Bidirectional (prover_by prover) records.now) }
 {
     list_volumes(Profile::Bidirectional, prover, records)
@@ -154,16 +151,14 @@ fn flatten_draw(answer: WaterDraw) -> EndakuroDraw
 }
 
 // The water draw of a unidirectional prover.
-#[unsafe(no_mangle)]
-pub extern "C" fn endakuro_draw(prover: EndakuroProver, records: &[u8]) -> EndakuroDraw
+pub fn endakuro_draw(prover: EndakuroProver, records: &[u8]) -> EndakuroDraw
     ensures { result ≡ flat_draw (draw_of Unidirectional (prover_by prover) records.now) }
 {
     flatten_draw(draw::draw(Profile::Unidirectional, settings::take_up(prover), records))
 }
 
 // The water draw of a bidirectional prover.
-#[unsafe(no_mangle)]
-pub extern "C" fn endakuro_bidirectional(prover: EndakuroProver, records: &[u8]) -> EndakuroDraw
+pub fn endakuro_bidirectional(prover: EndakuroProver, records: &[u8]) -> EndakuroDraw
     ensures { result ≡ flat_draw (draw_of Bidirectional (prover_by prover) records.now) }
 {
     flatten_draw(draw::draw(Profile::Bidirectional, settings::take_up(prover), records))
