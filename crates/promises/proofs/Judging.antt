@@ -35,7 +35,7 @@ use Rattle.promises.specs.WaterDraw as water
 use Rattle.promises.specs.WaterDraw.{FillInOrder, FillsInOrder, ThreeMeet}
 use Rattle.promises.specs.Causes.{ProvingCause, JobCause, PassesCause, DrawCause}
 use Rattle.promises.specs.Causes as cause
-use Rattle.promises.proofs.Reasons.{At, here, InTurn, sooner, later, OfFirst, of, Exactly, decided, demanded, tested, tested_both, in-turn, in_words, first-to-last, Tells, by_judging, by_unless, tells_in_words, tells_nine}
+use Rattle.promises.proofs.Reasons.{At, here, at_named, InTurn, sooner, later, OfFirst, of, Exactly, decided, demanded, tested, tested_both, in-turn, in_words, first-to-last, Tells, by_judging, by_unless, tells_in_words, tells_nine}
 use Rattle.promises.proofs.Meeting.{no_five, first_five_meet, no_three, first_three_meet}
 
 -- 1: 'lent records not whole, or too few or many'
@@ -106,10 +106,10 @@ module _ (prover : Prover) (k : ℕ) (form : Form) (s : List ℕ) where
     named (sooner (sooner (sooner (here out)))) = cause.records_lent out
     named (sooner (sooner (later lent (sooner (here out))))) = cause.prover_setting lent out
     named (sooner (sooner (later lent (later ok (here out))))) = cause.k_factor_or_limit lent ok out
-    named (sooner (later settled (sooner (of i h before (sooner (here out)))))) = cause.record_field settled i h before out
-    named (sooner (later settled (sooner (of i h before (later ok (here out)))))) = cause.unnamed_byte settled i h before ok out
-    named (sooner (later settled (later records (of i h before (sooner (here out)))))) = cause.indicated_volume (record { settled = settled; records = records }) i h before out
-    named (sooner (later settled (later records (of i h before (later ok (here out)))))) = cause.run_factor (record { settled = settled; records = records }) i h before ok out
+    named (sooner (later settled (sooner (of i h before (sooner there))))) = at_named (ProvingCause prover k limit form s) there (λ out. cause.record_field settled i h before out)
+    named (sooner (later settled (sooner (of i h before (later ok there))))) = at_named (ProvingCause prover k limit form s) there (λ out. cause.unnamed_byte settled i h before ok out)
+    named (sooner (later settled (later records (of i h before (sooner there))))) = at_named (ProvingCause prover k limit form s) there (λ out. cause.indicated_volume (record { settled = settled; records = records }) i h before out)
+    named (sooner (later settled (later records (of i h before (later ok there))))) = at_named (ProvingCause prover k limit form s) there (λ out. cause.run_factor (record { settled = settled; records = records }) i h before ok out)
     named (later ok (here none-meet)) = cause.no_group (record { settled = ok.0; records = ok.1.0 }) ok.1.1 (λ at five. none-meet (at, five))
 
     meant : {number at : ℕ} → ProvingCause prover k limit form s number at → FiveCause number at
@@ -206,9 +206,9 @@ module _ (profile : Profile) (prover : Prover) (s : List ℕ) where
   count_named : {number at : ℕ} → CountCause number at → PassesCause profile prover s number at
   count_named (sooner (sooner (here out))) = cause.fills_lent out
   count_named (sooner (later lent (sooner (here out)))) = cause.metal_or_pipe lent out
-  count_named (sooner (later lent (later ok (of i h before (sooner (sooner (here out))))))) = cause.fill_field (settled prover s lent ok) i h before out
-  count_named (sooner (later lent (later ok (of i h before (sooner (later fields (here out))))))) = cause.fill_unnamed_byte (settled prover s lent ok) i h before fields out
-  count_named (sooner (later lent (later ok (of i h before (later both (here out)))))) = cause.pass_rule (settled prover s lent ok) i h before both.0 both.1 out
+  count_named (sooner (later lent (later ok (of i h before (sooner (sooner there)))))) = at_named (PassesCause profile prover s) there (λ out. cause.fill_field (settled prover s lent ok) i h before out)
+  count_named (sooner (later lent (later ok (of i h before (sooner (later fields there)))))) = at_named (PassesCause profile prover s) there (λ out. cause.fill_unnamed_byte (settled prover s lent ok) i h before fields out)
+  count_named (sooner (later lent (later ok (of i h before (later both there))))) = at_named (PassesCause profile prover s) there (λ out. cause.pass_rule (settled prover s lent ok) i h before both.0 both.1 out)
   count_named (later fills (here out)) = cause.passes_drawn fills out
 
   count_meant : {number at : ℕ} → PassesCause profile prover s number at → CountCause number at

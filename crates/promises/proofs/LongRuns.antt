@@ -42,7 +42,7 @@ use Rattle.promises.specs.Arguments.{first, second, third, fourth, fifth, sixth,
 use Rattle.promises.specs.Records.{Lent}
 use Rattle.promises.specs.Proving.{RunInOrder}
 use Rattle.promises.specs.LongRuns.{RecordMoves, Moves, MoveCause, buffer_length, records_lent, record_field, unnamed_byte, not_whole, LongRuns}
-use Rattle.promises.proofs.Reasons.{At, here, InTurn, sooner, later, OfFirst, of, Exactly, tested, in-turn, in_words, first-to-last, Tells, by_judging, tells_in_words, one_cause}
+use Rattle.promises.proofs.Reasons.{At, here, at_named, InTurn, sooner, later, OfFirst, of, Exactly, tested, in-turn, in_words, first-to-last, Tells, by_judging, tells_in_words, one_cause}
 use Rattle.promises.proofs.ExactCauses.{told_exactly}
 use Rattle.promises.proofs.Judging.{lent_judged}
 
@@ -70,9 +70,9 @@ module _ (form : Form) (s : List ℕ) (size : ℕ) where
   named : {number at : ℕ} → AnyCause number at → MoveCause form s size number at
   named (sooner (here wrong)) = buffer_length wrong
   named (later buffer (sooner (here wrong))) = records_lent buffer wrong
-  named (later buffer (later lent (of i h every (sooner (sooner (here wrong)))))) = record_field (record { buffer = buffer; lent = lent }) i h every wrong
-  named (later buffer (later lent (of i h every (sooner (later fields (here wrong)))))) = unnamed_byte (record { buffer = buffer; lent = lent }) i h every fields wrong
-  named (later buffer (later lent (of i h every (later ok (here wrong))))) = not_whole (record { buffer = buffer; lent = lent }) i h every ok wrong
+  named (later buffer (later lent (of i h every (sooner (sooner there))))) = at_named (MoveCause form s size) there (λ wrong. record_field (record { buffer = buffer; lent = lent }) i h every wrong)
+  named (later buffer (later lent (of i h every (sooner (later fields there))))) = at_named (MoveCause form s size) there (λ wrong. unnamed_byte (record { buffer = buffer; lent = lent }) i h every fields wrong)
+  named (later buffer (later lent (of i h every (later ok there)))) = at_named (MoveCause form s size) there (λ wrong. not_whole (record { buffer = buffer; lent = lent }) i h every ok wrong)
 
   meant : {number at : ℕ} → MoveCause form s size number at → AnyCause number at
   meant (buffer_length wrong) = sooner (here wrong)

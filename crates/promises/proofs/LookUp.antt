@@ -33,7 +33,7 @@ use Rattle.promises.specs.Records.{Lent}
 use Rattle.promises.specs.PrintedTable.{apart, NearestHalf, RecordInOrder, TableInOrder, Holds, Sought, Answerable, Answers, LookUpCause, OtherwiseSame}
 use Rattle.promises.specs.PrintedTable as cause
 use Rattle.promises.specs.LookUp.{LookUp}
-use Rattle.promises.proofs.Reasons.{At, here, InTurn, sooner, later, OfFirst, of, Exactly, tested, in-turn, in_words, first-to-last, Tells, by_unless, tells_in_words, tells_place, one_cause}
+use Rattle.promises.proofs.Reasons.{At, here, at_named, InTurn, sooner, later, OfFirst, of, Exactly, tested, in-turn, in_words, first-to-last, Tells, by_unless, tells_in_words, tells_place, one_cause}
 use Rattle.promises.proofs.Groups.{apart as contrary}
 use Rattle.promises.proofs.Judging.{lent_judged}
 
@@ -148,7 +148,7 @@ module _ (t : ℤ) (g : ℕ) (s : List ℕ) where
 
   named : {number at : ℕ} → Cause number at → LookUpCause t g s number at
   named (sooner (sooner (sooner (here out)))) = cause.records_lent out
-  named (sooner (sooner (later lent (of i h before (here out))))) = cause.faulty_or_disordered lent i h before out
+  named (sooner (sooner (later lent (of i h before there)))) = at_named (LookUpCause t g s) there (λ out. cause.faulty_or_disordered lent i h before out)
   named (sooner (later table (here out))) = cause.asked_numbers table out
   named (later ok (here none_there)) = cause.no_such_pair ok.0 ok.1 (λ i sought. none_there (i, sought))
 

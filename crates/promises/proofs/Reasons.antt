@@ -22,6 +22,10 @@ use Rattle.promises.proofs.Groups.{apart}
 pub data At (number at : ℕ) (P : Type 0) : ℕ → ℕ → Type 0 where
   here : P → At number at P number at
 
+-- What P gives for that number and record is had of the number and record that are named.
+pub at_named : {n₀ at₀ number at : ℕ} {P : Type 0} (Cause : ℕ → ℕ → Type 0) → At n₀ at₀ P number at → (P → Cause n₀ at₀) → Cause number at
+at_named Cause (here holds) gives = gives holds
+
 -- a cause of the first, or the first is in order and there is a cause of the next
 pub data InTurn (First : ℕ → ℕ → Type 0) (InOrder : Type 0) (Next : ℕ → ℕ → Type 0) (number at : ℕ) : Type 0 where
   sooner : First number at → InTurn First InOrder Next number at
