@@ -145,58 +145,74 @@ def is_refused(status, said):
     return status == REFUSED and said.rstrip("\n").rpartition("\n")[2].startswith("logic=not-proved")
 
 
-def logs(root, edits):
-    """What the prover says of each edit, a path with the pairs that it changes: (its status, its words), or None with why it was not tried."""
-    found, waiting = {}, {}
-    for edit, pairs in edits.items():
-        name = edit.parent.parent.name
-        texts, why = edited(edit.parent.parent, pairs)
-        lacking = [it for it in kit.below(kit.listed(root), name) if not (kit.library(root, it) / "format").is_file()]
-        if why or lacking:
-            found[edit] = None, why or f"{lacking[0]} is not built: run `rt ci` first"
-            continue
-        key = hashlib.sha256(repr((sum_of(root, name), edit.name, sorted(texts.items()))).encode()).hexdigest()
-        found[edit] = kept(key)
-        if not found[edit]:
-            waiting.setdefault(name, {})[edit] = key, texts
-    made = {}
-    with tempfile.TemporaryDirectory(prefix="endakuro-waves-") as room, ThreadPoolExecutor(128) as pool:
-        lanes = Lanes()
+class Tries:
+    """The tries of one run: a crate is checked as it stands at most once. Use as a context: what they prove goes with it."""
 
-        def one(name, seed, edit, key, texts):
-            need = need_of(root, name)
-            with lanes.one(OVER * need):
-                over = seed.with_name(f"{name}-{edit.stem}")
-                copied(seed, over)
-                status, said = check(root, name, texts, over)
-                shutil.rmtree(over, ignore_errors=True)
-            if not is_refused(status, said):
-                with lanes.one(need):
-                    status, said = check(root, name, texts, None)
-            if is_refused(status, said):
-                keep(key, status, said)
-            return status, said
+    def __init__(self, root):
+        self.root, self.lanes, self.seeds, self.room = root, Lanes(), {}, tempfile.TemporaryDirectory(prefix="endakuro-waves-")
 
-        def crate(name):
-            seed = pathlib.Path(room, name)
-            own = root / "crates" / name / "out" / "incremental"
-            with lanes.one(need_of(root, name)):
+    def __enter__(self):
+        return self
+
+    def __exit__(self, *_):
+        self.room.cleanup()
+
+    def seed(self, name):
+        """What a check of the crate as it stands proved, or why it did not."""
+        if name not in self.seeds:
+            seed = pathlib.Path(self.room.name, name)
+            own = self.root / "crates" / name / "out" / "incremental"
+            with self.lanes.one(need_of(self.root, name)):
                 if own.is_dir():
                     copied(own, seed)
                 else:
                     seed.mkdir()
-                status, said = check(root, name, {}, seed)
-            if status:
-                last = (said.rstrip("\n") or "it said nothing").rpartition("\n")[2]
-                return {edit: (None, f"the crate as it stands is not proved: {last[:200]}") for edit in waiting[name]}
-            tried = {edit: pool.submit(one, name, seed, edit, *rest) for edit, rest in waiting[name].items()}
-            return tried
+                status, said = check(self.root, name, {}, seed)
+            last = (said.rstrip("\n") or "it said nothing").rpartition("\n")[2]
+            self.seeds[name] = seed, f"the crate as it stands is not proved: {last[:200]}" if status else None
+        return self.seeds[name]
 
-        crates = {name: pool.submit(crate, name) for name in sorted(waiting, key=lambda it: -need_of(root, it) * len(waiting[it]))}
-        for name, begun in crates.items():
-            for edit, tried in begun.result().items():
-                made[edit] = tried if isinstance(tried, tuple) else tried.result()
-    return {**found, **made}
+    def one(self, name, seed, edit, key, texts):
+        need, over = need_of(self.root, name), seed.with_name(f"{name}-{edit.name}")
+        with self.lanes.one(OVER * need):
+            copied(seed, over)
+            status, said = check(self.root, name, texts, over)
+            shutil.rmtree(over, ignore_errors=True)
+        if not is_refused(status, said):
+            with self.lanes.one(need):
+                status, said = check(self.root, name, texts, None)
+        if is_refused(status, said):
+            keep(key, status, said)
+        return status, said
+
+    def crate(self, pool, name, edits):
+        seed, why = self.seed(name)
+        if why:
+            return {edit: (None, why) for edit in edits}
+        return {edit: pool.submit(self.one, name, seed, edit, *rest) for edit, rest in edits.items()}
+
+    def logs(self, edits):
+        """What the prover says of each edit, a path with the pairs that it changes: (its status, its words), or None with why it was not tried."""
+        root, found, waiting = self.root, {}, {}
+        for edit, pairs in edits.items():
+            name = edit.parent.parent.name
+            texts, why = edited(edit.parent.parent, pairs)
+            lacking = [it for it in kit.below(kit.listed(root), name) if not (kit.library(root, it) / "format").is_file()]
+            if why or lacking:
+                found[edit] = None, why or f"{lacking[0]} is not built: run `rt ci` first"
+                continue
+            key = hashlib.sha256(repr((sum_of(root, name), edit.name, sorted(texts.items()))).encode()).hexdigest()
+            found[edit] = kept(key)
+            if not found[edit]:
+                waiting.setdefault(name, {})[edit] = key, texts
+        if waiting:
+            print(f"waves: {sum(map(len, waiting.values()))} of {len(edits)} to be tried", flush=True)
+        with ThreadPoolExecutor(max(1, len(edits) + len(waiting))) as pool:
+            longest = sorted(waiting, key=lambda it: -need_of(root, it) * len(waiting[it]))
+            for begun in [pool.submit(self.crate, pool, name, waiting[name]) for name in longest]:
+                for edit, tried in begun.result().items():
+                    found[edit] = tried if isinstance(tried, tuple) else tried.result()
+        return found
 
 
 if __name__ == "__main__":

@@ -187,13 +187,13 @@ def run(root, crates, logs):
         if not crates or edit.parent.parent.name in crates:
             waves[edit], found = text_faults(edit)
             faults += [f"{edit.parent.parent.name}/{edit.stem}: {fault}" for fault in found]
-    tried = logs(root, {edit: [pair for wrong in wrongs for pair in wrong.pairs] for edit, wrongs in waves.items() if wrongs})
+    tried = logs({edit: [pair for wrong in wrongs for pair in wrong.pairs] for edit, wrongs in waves.items() if wrongs})
     for edit, wrongs in waves.items():
         if wrongs:
             for wrong, fault in log_faults(edit.parent.parent.name, wrongs, edit.parent.parent, tried[edit]):
                 alone[edit.with_name(f"{edit.stem}.{wrong.label}")] = edit, wrong, fault
     # one that its wave does not show is tried alone, where it stood beside others
-    again = logs(root, {place: wrong.pairs for place, (edit, wrong, _) in alone.items() if len(waves[edit]) > 1})
+    again = logs({place: wrong.pairs for place, (edit, wrong, _) in alone.items() if len(waves[edit]) > 1})
     for place, (edit, wrong, fault) in alone.items():
         crate = edit.parent.parent.name
         found = [fault for _, fault in log_faults(crate, [wrong], edit.parent.parent, again[place])] if place in again else [fault]
@@ -262,7 +262,7 @@ MADE_UP = [
 def made_up(log):
     """What the prover would say of made-up edits: the log, and of one that is tried alone what shows it."""
 
-    def logs(root, edits):
+    def logs(edits):
         found = {}
         for edit, pairs in edits.items():
             why = tries.edited(edit.parent.parent, pairs)[1]
@@ -297,7 +297,8 @@ def main():
     print(f"waves: {len(MADE_UP)} made-up logs, {len(wrongly)} told wrongly")
     if wrongly or sys.argv[1:] == ["--self"]:
         return 1 if wrongly else 0
-    programs, others, edits, alone, faults = run(ROOT, sys.argv[1:], tries.logs)
+    with tries.Tries(ROOT) as tried:
+        programs, others, edits, alone, faults = run(ROOT, sys.argv[1:], tried.logs)
     for fault in faults:
         print(fault)
     if others:
