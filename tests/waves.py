@@ -131,25 +131,26 @@ def open_goals(crate, function, log):
 
 
 def refusals(crate, function, log):
-    """What the check says of a function's own proof: (is it a fact that fails, its words)."""
+    """What the check says of a function's own proof: (whether a fact fails, a search stops at a limit or only the form is amiss; its words)."""
     own = "proofs/" + "/".join(function.split("::")) + "/"
     errs = [text for path, text in errors(log) if path.startswith(own)]
     for text in errs:
-        yield is_fact(text), text
+        yield "fact" if is_fact(text) else "form", text
     # What the check proves by itself: it says where the goal is false, or else that no search closes it, which says something where no
     # answer was lost.
     is_whole = not any(FORM.search(text) for text in errs)
     for goal, more in open_goals(crate, function, log):
-        yield FALSE in more or is_whole and LIMIT not in more, f"`{goal}` is not proved{more}"
+        yield "fact" if FALSE in more or is_whole and LIMIT not in more else "limit" if is_whole else "form", f"`{goal}` is not proved{more}"
 
 
-def faults_of(crate, wrong, log, changes):
+def faults_of(crate, wrong, log, changes, is_alone):
     if changes == "definition":
         if not any(is_fact(text) for _, text in errors(log)) and FALSE not in log:
             yield f"{wrong.label} (a definition): the log has no fact that fails"
         return
     said = list(refusals(crate, wrong.function, log))
-    if any(fact for fact, _ in said):
+    found = {kind for kind, _ in said}
+    if "fact" in found or "limit" in found and is_alone:
         return
     if not said:
         yield f"{wrong.label}: nothing is refused in {wrong.function}"
@@ -167,7 +168,13 @@ def text_faults(edit):
     return wrongs, faults
 
 
-def log_faults(crate, wrongs, folder, tried):
+def at_limit(crate, wrong, folder, tried):
+    """Whether a goal of the function's that a search closes in the program as it stands is not closed, because the search stops at a limit, and
+    nothing more is known of it: so it may be in one that is tried alone."""
+    return kind(wrong, folder) != "definition" and not any(what == "fact" for what, _ in refusals(crate, wrong.function, tried[1]))
+
+
+def log_faults(crate, wrongs, folder, tried, is_alone=False):
     """Each of these wrong programs, with what is amiss with what the prover said when they were tried together."""
     status, said = tried
     for wrong in wrongs:
@@ -177,12 +184,12 @@ def log_faults(crate, wrongs, folder, tried):
             last = (said.rstrip("\n") or "nothing").rpartition("\n")[2]
             yield wrong, f"{wrong.label}: {'the crate is still proved' if status == 0 else f'no verdict, status {status}'}: {last[:160]}"
         else:
-            for fault in faults_of(crate, wrong, said, kind(wrong, folder)):
+            for fault in faults_of(crate, wrong, said, kind(wrong, folder), is_alone or len(wrongs) == 1):
                 yield wrong, fault
 
 
 def run(root, crates, logs):
-    programs, others, waves, faults, alone = 0, [], {}, [], {}
+    programs, others, waves, faults, alone, limits = 0, [], {}, [], {}, []
     for edit in sorted(root.glob("crates/*/must-fail/*.edit")):
         if not crates or edit.parent.parent.name in crates:
             waves[edit], found = text_faults(edit)
@@ -190,13 +197,18 @@ def run(root, crates, logs):
     tried = logs({edit: [pair for wrong in wrongs for pair in wrong.pairs] for edit, wrongs in waves.items() if wrongs})
     for edit, wrongs in waves.items():
         if wrongs:
-            for wrong, fault in log_faults(edit.parent.parent.name, wrongs, edit.parent.parent, tried[edit]):
+            crate, found = edit.parent.parent.name, list(log_faults(edit.parent.parent.name, wrongs, edit.parent.parent, tried[edit]))
+            for wrong, fault in found:
                 alone[edit.with_name(f"{edit.stem}.{wrong.label}")] = edit, wrong, fault
+            if len(wrongs) == 1 and not found and at_limit(crate, wrongs[0], edit.parent.parent, tried[edit]):
+                limits.append(f"{crate}/{wrongs[0].label}")
     # one that its wave does not show is tried alone, where it stood beside others
     again = logs({place: wrong.pairs for place, (edit, wrong, _) in alone.items() if len(waves[edit]) > 1})
     for place, (edit, wrong, fault) in alone.items():
         crate = edit.parent.parent.name
-        found = [fault for _, fault in log_faults(crate, [wrong], edit.parent.parent, again[place])] if place in again else [fault]
+        found = [fault for _, fault in log_faults(crate, [wrong], edit.parent.parent, again[place], True)] if place in again else [fault]
+        if not found and at_limit(crate, wrong, edit.parent.parent, again[place]):
+            limits.append(f"{crate}/{wrong.label}")
         faults += [f"{crate}/{edit.stem}: {fault}" for fault in found]
     for edit, wrongs in waves.items():
         for wrong in wrongs:
@@ -207,7 +219,7 @@ def run(root, crates, logs):
                 programs += 1
     labels = collections.Counter((edit.parent.parent.name, wrong.label) for edit in root.glob("crates/*/must-fail/*.edit") for wrong in read_edit(edit.read_text())[0])
     faults += [f"{crate}/{label} stands {count} times" for (crate, label), count in labels.items() if count > 1 and (not crates or crate in crates)]
-    return programs, others, len(waves), len(again), faults
+    return programs, others, limits, len(waves), len(again), faults
 
 
 DIFFER = "`returns`: as printed, the two types differ only where one has `0` (expected) and the other has `1` (found)"
@@ -222,7 +234,8 @@ MADE_UP = [
     ("# a in f: why\nfile: src/lib.rt\nold: x\nnew: y", "./proofs/f/Answers.antt:9:1: error: `returns`: expected type `a ≤ b`\n  but this has type `a < b`", None),
     ("# a in f: why\nfile: src/lib.rt\nold: x\nnew: y", f"{OPEN_GOAL}; the facts known there {FALSE}\n{NO_PROOF}", None),
     ("# a in f: why\nfile: src/lib.rt\nold: x\nnew: y", f"{OPEN_GOAL}\n{NO_PROOF}", None),
-    ("# a in f: why\nfile: src/lib.rt\nold: x\nnew: y", f"{OPEN_GOAL}; `search` {LIMIT}\n{NO_PROOF}", "only its form: `returns` is not proved; `search` gave up"),
+    ("# a in f: why\nfile: src/lib.rt\nold: x\nnew: y", f"{OPEN_GOAL}; `search` {LIMIT}\n{NO_PROOF}", None),
+    ("# a in f: why\nfile: src/lib.rt\nold: x\nnew: y", f"{LOST}\n{OPEN_GOAL}; `search` {LIMIT}\n{NO_PROOF}", "only its form"),
     ("# a in f: why\nfile: src/lib.rt\nold: x\nnew: y", f"{LOST}\n{OPEN_GOAL}\n{NO_PROOF}", "only its form"),
     ("# a in f: why\nfile: src/lib.rt\nold: x\nnew: y", f"{LOST}\n{OPEN_GOAL}; the facts known there {FALSE}\n{NO_PROOF}", None),
     ("# a in f: why\nfile: src/lib.rt\nold: x\nnew: y", f"{OPEN_GOAL}; the facts known there {FALSE}\nfn C::g: proved\n{NO_PROOF}", "nothing is refused in f"),
@@ -298,11 +311,13 @@ def main():
     if wrongly or sys.argv[1:] == ["--self"]:
         return 1 if wrongly else 0
     with tries.Tries(ROOT) as tried:
-        programs, others, edits, alone, faults = run(ROOT, sys.argv[1:], tried.logs)
+        programs, others, limits, edits, alone, faults = run(ROOT, sys.argv[1:], tried.logs)
     for fault in faults:
         print(fault)
     if others:
         print("not programs: " + ", ".join(others))
+    if limits:
+        print("refused at a limit of the search: " + ", ".join(limits))
     print(f"waves: {programs} wrong programs and {len(others)} wrong promises or definitions in {edits} edits, {alone} tried alone, {len(faults)} faults")
     return 1 if faults or not edits else 0
 
