@@ -1,6 +1,7 @@
 """Building the line program: proved on first use, and again when a source is newer."""
 
 import os
+import re
 import shutil
 import subprocess
 import sys
@@ -9,12 +10,15 @@ from .program import ROOT
 from .ticker import Ticker
 
 NAME = "endakuro"
-BINARY = ROOT / "target" / "bin" / NAME
+FOLDER = ROOT / "crates" / NAME
+BINARY = FOLDER / "out" / NAME
 # When the sources were last found proved; rt leaves the program's own date as it is when nothing changed.
-STAMP = ROOT / "target" / "front-checked"
-# rt starts this many checks together and waits for the last of them: more than most machines have processors, so that
-# none stands idle.
-CHECKS = "8"
+STAMP = FOLDER / "out" / "front-checked"
+# What is no part of the program: what rt makes, and wrong programs.
+APART = ("out", "must-fail")
+BEGUN = re.compile(r"rt: chose --jobs \d+ for (\w+)$")
+PROVED = "logic=proved "
+RUNS = "rt: running "
 
 
 class BuildFailed(Exception):
@@ -22,19 +26,22 @@ class BuildFailed(Exception):
 
 
 def crates():
-    """The crates to prove: the program's own and all that it stands on, by crates.txt."""
+    """The crates to prove, by crates.txt: the program's own and all that it stands on, each after those that it uses, as rt takes them."""
     needs = {}
     for line in (ROOT / "crates.txt").read_text().splitlines():
         if line and not line.startswith("#"):
             name, _, below = line.partition(":")
-            needs[name.strip()] = below.split()
-    wanted, waiting = set(), [NAME]
-    while waiting:
-        name = waiting.pop()
-        if name in needs and name not in wanted:
-            wanted.add(name)
-            waiting += needs[name]
-    return wanted
+            needs[name.split()[0]] = below.split()
+    found = []
+
+    def add(name):
+        if name in needs and name not in found:
+            for below in needs[name]:
+                add(below)
+            found.append(name)
+
+    add(NAME)
+    return found
 
 
 def is_current():
@@ -47,13 +54,12 @@ def is_current():
 
 
 def within(folder):
-    """All files and folders of a crate but its wrong programs, which are no part of the program. By scandir: they are
-    looked at before every command."""
+    """All files and folders of a crate that are part of the program. By scandir: they are looked at before every command."""
     if not os.path.isdir(folder):
         return
     with os.scandir(folder) as places:
         for place in places:
-            if place.name != "must-fail":
+            if place.name not in APART:
                 yield place
                 if place.is_dir(follow_symlinks=False):
                     yield from within(place)
@@ -65,35 +71,41 @@ def ensure():
         return
     if not shutil.which("rt"):
         raise BuildFailed("the Rattle kit is needed: no rt on the path")
-    total, err = len(crates()), sys.stderr
+    names, err = crates(), sys.stderr
     first = "first use: " if not BINARY.is_file() else ""
-    print(f"{first}proving {NAME} and what it stands on, {total} crates, some minutes", file=err, flush=True)
+    print(f"{first}proving {NAME} and what it stands on, {len(names)} crates, some minutes", file=err, flush=True)
+    # It proves what is not proved yet, makes the program, and runs it once, on no input.
     process = subprocess.Popen(
-        ["rt", "check", NAME],
-        cwd=ROOT,
-        env={"RT_JOBS": CHECKS, **os.environ},
+        ["rt", "run"],
+        cwd=FOLDER,
+        stdin=subprocess.DEVNULL,
         stdout=subprocess.PIPE,
         stderr=subprocess.STDOUT,
         text=True,
         errors="replace",
     )
-    printed = watch(process, total, err)
-    if process.wait():
-        raise BuildFailed("rt check endakuro failed:\n" + "\n".join(printed[-20:]))
+    printed = watch(process, names, err)
+    if process.wait() or not BINARY.is_file():
+        raise BuildFailed("rt run failed in crates/endakuro:\n" + "\n".join(printed[-20:]))
     STAMP.touch()
 
 
-def watch(process, total, err):
-    """What rt printed; each crate proved is told as it comes."""
-    printed, ticker = [], Ticker(total, "crates proved", err)
+def watch(process, names, err):
+    """What rt printed; each crate proved is told as it comes. A crate of which rt says nothing was proved before."""
+    printed, ticker, at = [], Ticker(len(names), "crates proved", err), None
     try:
         for line in process.stdout:
             printed.append(line.rstrip())
-            words = line.split()
-            if len(words) >= 3 and words[0] == "rt:" and words[2] == "proved":
-                ticker.done += 1
+            begun = BEGUN.match(line)
+            if begun and begun[1] in names:
+                at = names.index(begun[1])
+                ticker.done = at
+            elif line.startswith(RUNS):
+                ticker.done = len(names)
+            elif at is not None and line.startswith(PROVED):
+                ticker.done = at + 1
                 if not ticker.shows:
-                    print(f"  {ticker.done} of {total}: {words[1]} proved", file=err, flush=True)
+                    print(f"  {ticker.done} of {len(names)}: {names[at]} proved", file=err, flush=True)
     finally:
         ticker.end()
     return printed

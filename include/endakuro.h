@@ -1,7 +1,7 @@
 /* Endakuro for C: proved arithmetic for meter proving.
  *
  * The functions below are proved to do what they say here for every input, so a caller checks nothing first.
- * Build the archive with `rt staticlib api`, link target/staticlib/libapi.a (x86-64), and include this file
+ * Build the archive with tests/c/archive, link target/staticlib/libapi.a (x86-64), and include this file
  * from C11 or C++17. Nothing here allocates, keeps anything between calls or prints; a call takes less than 2 KB
  * of stack.
  *

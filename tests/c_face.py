@@ -2,7 +2,7 @@
 beside the line program, every number of the panel beside the reference and back, channels that no line can say, run records moved between
 their forms, rounded quotients beside whole numbers of any length, and the examples.
 
-Run: python3 tests/c_face.py [--lines N] [--seed S]     once `rt check endakuro` has built the line program
+Run: python3 tests/c_face.py [--lines N] [--seed S]     once `rt run` in crates/endakuro, or `rt ci`, has built the line program
 """
 
 import argparse

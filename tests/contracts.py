@@ -4,6 +4,8 @@
 - every label that a row names is a wrong program that the check tries, and every wrong program is named; a label's function is in the
   source; a label that changes a promise or a definition and not the code says so beside it
 - no public function has a `requires`, and every one stands in a table that says that it takes any arguments and has one outcome
+- a static library has no promises of its own: each function that it exports has the parameters and the clauses of one of a library, word
+  for word, and calls that
 
 Run: python3 tests/contracts.py    --self tries the test on made-up crates, which it also does before every run
 """
@@ -21,6 +23,9 @@ ROW = re.compile(r"^\| `(?P<function>[\w:]+)` \|.*\|(?P<labels>[^|]*)\|$")
 LABEL = re.compile(r"`(\w+)`(?: \((promise|definition)\))?")
 FUNCTION = re.compile(r"^(?P<indent>\s*)(?P<public>pub )?(?:pub\(crate\) )?(?:extern \"C\" )?fn (?P<name>\w+)")
 OWNER = re.compile(r"^impl (\w+)")
+# A function of a static library: its parameters, result and clauses, and what it calls with the names of those parameters.
+EXPORT = re.compile(r"^#\[unsafe\(no_mangle\)\]\npub extern \"C\" fn (?P<name>\w+)(?P<head>\(.*?)\n\{\n(?P<body>.*?)\n\}$", re.S | re.M)
+CALL = re.compile(r"    (\w+)::((?:\w+::)*)(\w+)\(([\w, ]*)\)")
 LOOSE = "## One outcome, and looseness"
 
 
@@ -58,6 +63,40 @@ def wrong_programs(folder):
             yield wrong.label, wrong.function, changes if changes in ("definition", "promise") else ""
 
 
+def static(root):
+    """The static libraries of crates.txt."""
+    listed = root / "crates.txt"
+    return set(re.findall(r"^(\w+) staticlib", listed.read_text(), re.M)) if listed.exists() else set()
+
+
+def library(root, folder):
+    """Whether a crate's public functions have promises of their own."""
+    return (folder / "src/lib.rt").exists() and folder.name not in static(root)
+
+
+def one_line(text):
+    return re.sub(r",? (?=\))|(?<=\() ", "", " ".join(text.split()))
+
+
+def export_faults(root):
+    for crate in sorted(static(root)):
+        for source in sorted((root / "crates" / crate / "src").glob("**/*.rt")):
+            text = source.read_text()
+            found = list(EXPORT.finditer(text))
+            if len(found) != len(re.findall(r"\bfn \w+\(", text)):
+                yield f"{crate}/{source.name} has a function that is no export, or is not laid out as one"
+            for export in found:
+                name, call = export["name"], CALL.fullmatch(export["body"])
+                given = re.findall(r"(\w+): ", export["head"].partition(") ->")[0])
+                if not call or call[3] != name or call[4].split(", ") != (given or [""]):
+                    yield f"{crate}::{name} does more than to call the function of its name with what it is given"
+                    continue
+                below = root / "crates" / call[1] / "src" / ("/".join(call[2].removesuffix("::").split("::") if call[2] else ["lib"]) + ".rt")
+                own = re.search(rf"^pub fn {name}(\(.*?)\n\{{$", below.read_text(), re.S | re.M) if below.exists() else None
+                if not own or one_line(own[1]) != one_line(export["head"]):
+                    yield f"{crate}::{name} has other parameters or clauses than {call[1]}::{call[2]}{name}"
+
+
 def crates(root):
     return sorted({path.parent.parent for path in root.glob("crates/*/src/*.rt") if path.stem in ("lib", "main")})
 
@@ -80,7 +119,7 @@ def row_faults(root, page):
         written |= {f"{crate}::{function}": public for function, public in own.items()}
         for function, public in own.items():
             whole = f"{crate}::{function}"
-            if public and (folder / "src/lib.rt").exists() and whole not in told and f"`{whole}`" not in loose:
+            if public and library(root, folder) and whole not in told and f"`{whole}`" not in loose:
                 yield f"{whole} has no row"
         tried = {label: change for label, _, change in wrong_programs(folder)}
         for label, function, _ in wrong_programs(folder):
@@ -104,7 +143,7 @@ def row_faults(root, page):
 def promise_faults(root):
     asked, fixed = promised.tables(root)
     for folder in crates(root):
-        if not (folder / "src/lib.rt").exists():
+        if not library(root, folder):
             continue
         for function, public, has_requires in functions(folder):
             whole = f"{folder.name}::{function}"
@@ -118,36 +157,46 @@ def promise_faults(root):
 
 def faults(root):
     page = (root / "docs/CONTRACTS.md").read_text()
-    return [*row_faults(root, page), *promise_faults(root)]
+    return [*row_faults(root, page), *promise_faults(root), *export_faults(root)]
 
 
-SOURCE = "pub fn f(\n    x: u8,\n) -> u8\n    ensures { λ r. ⌜ r ≡ x ⌝ }\n{\n    x + 0\n}\n"
+SOURCE = "pub fn f(\n    x: u8,\n) -> u8\n    ensures { result ≡ x }\n{\n    x + 0\n}\n"
 EDIT = "# a in f: why\nfile: src/lib.rt\nold: x + 0\nnew: x + 1\n\n# b in f: why\nfile: src/lib.rt\nold: x + 0\nnew: x + 2\n"
 CONTRACTS = "| function | sentence | promise | ruled out |\n|---|---|---|---|\n| `c::f` | 'f' | `f` | `a`, `b` |\n"
-TABLE = "use Rattle·c.proofs.f.Reads as c-f\n\npub record OneOutcome : Type 0 where\n  pub c-f-one : OneAnswer c-f.Pre c-f.Post\n"
+TABLE = "use Rattle.c.proofs.f.Reads as c-f\n\npub record OneOutcome : Type 0 where\n  pub c_f_one : OneAnswer c-f.Pre c-f.Post\n"
 IN_PLACE = (
-    "use Rattle·c.proofs.f as f\n\npub record InPlace : Type 2 where\n  pub f-says : (r : _) → f.ensures-1 𝓤 r ≡ fact 𝓤 (F r)\n"
-    "  pub f-asks-nothing : (a : _) (g : _) → ent 𝓤 (emp 𝓤) (f.clauses 𝓤 a .requires g)\n  pub f-one : OneChange F\n"
+    "use Rattle.c.specs.contracts.f as f\n\npub record InPlace : Type 2 where\n  pub f_says : (r : _) → f.ensures-1 𝓤 r ≡ fact 𝓤 (F r)\n"
+    "  pub f_asks_nothing : (a : _) (g : _) → ent 𝓤 (emp 𝓤) ((f.clauses 𝓤 a).requires g)\n  pub f_one : OneChange F\n"
 )
-BY_NAME = "use Rattle·c.proofs.Names.{FPre, FPost}\n\npub record OneOutcome : Type 0 where\n  pub c-f-one : OneAnswer FPre FPost\n"
-NAMES = "use Rattle·c·proofs.proofs.f.Reads as f\n\nFPre κ a = f.Pre κ a\nFPost κ a r x = f.Post κ a r x\n"
-WITH_REQUIRES = SOURCE.replace("    ensures", "    requires { ⌜ x < 4 ⌝ }\n    ensures")
+BY_NAME = "use Rattle.c.proofs.Names.{FPre, FPost}\n\npub record OneOutcome : Type 0 where\n  pub c_f_one : OneAnswer FPre FPost\n"
+NAMES = "use Rattle.c.proofs.f.Reads as f\n\nFPre κ a = f.Pre κ a\nFPost κ a r x = f.Post κ a r x\n"
+EXPORTED = "#[unsafe(no_mangle)]\npub extern \"C\" fn f(x: u8) -> u8\n    ensures { result ≡ x }\n{\n    c::f(x)\n}\n"
+ARCHIVE = {"crates.txt": "c:\ne staticlib: c\n", "crates/e/src/lib.rt": EXPORTED}
+WITH_REQUIRES = SOURCE.replace("    ensures", "    requires { x < 4 }\n    ensures")
 MADE_UP = [
     # (what the crate has otherwise, words of the fault; none where all is well)
     ({}, None),
     ({"crates/promises/specs/T.antt": IN_PLACE}, None),
     ({"crates/promises/specs/T.antt": BY_NAME, "crates/c/proofs/Names.antt": NAMES}, None),
     ({"crates/c/src/lib.rt": WITH_REQUIRES}, "c::f is public and has a `requires`"),
-    ({"crates/c/src/lib.rt": SOURCE + "\nfn g(x: u8) -> u8\n    requires { ⌜ x < 4 ⌝ }\n{\n    x\n}\n"}, None),
-    ({"crates/c/src/lib.rt": SOURCE + "\npub(crate) fn g(x: u8) -> u8\n    requires { ⌜ x < 4 ⌝ }\n{\n    x\n}\n"}, None),
+    ({"crates/c/src/lib.rt": SOURCE + "\nfn g(x: u8) -> u8\n    requires { x < 4 }\n{\n    x\n}\n"}, None),
+    ({"crates/c/src/lib.rt": SOURCE + "\npub(crate) fn g(x: u8) -> u8\n    requires { x < 4 }\n{\n    x\n}\n"}, None),
     ({"crates/promises/specs/T.antt": ""}, "c::f: no table says that its outcome is one"),
     ({"crates/promises/specs/T.antt": TABLE.replace("OneAnswer", "Entry")}, "c::f: no table says that its outcome is one"),
     ({"crates/promises/specs/T.antt": TABLE.replace("c.proofs.f", "c.proofs.g")}, "c::f: no table says that it takes any arguments"),
     ({"crates/promises/specs/T.antt": TABLE.replace("OneAnswer c-f.Pre c-f.Post", "OneLeft c-f.Post (λ κ x. x)")}, "c::f: no table says that it takes any arguments"),
     ({"crates/promises/specs/T.antt": IN_PLACE.replace("f.clauses", "g.clauses")}, "c::f: no table says that it takes any arguments"),
     ({"crates/promises/specs/T.antt": BY_NAME}, "c::f: no table says that its outcome is one"),
-    ({"crates/c/src/lib.rt": SOURCE + "\npub fn g(x: u8) -> u8\n    ensures { λ r. ⌜ r ≡ x ⌝ }\n{\n    x\n}\n"}, "c::g has no row"),
+    ({"crates/c/src/lib.rt": SOURCE + "\npub fn g(x: u8) -> u8\n    ensures { result ≡ x }\n{\n    x\n}\n"}, "c::g has no row"),
     ({"docs/CONTRACTS.md": CONTRACTS.replace("`a`, `b`", "`a`")}, "c/b is named in no row"),
+    (ARCHIVE, None),
+    ({**ARCHIVE, "crates/c/src/lib.rt": SOURCE.replace("    x: u8,\n", "    x: u8, y: u8,\n")}, "e::f has other parameters or clauses than c::f"),
+    ({**ARCHIVE, "crates/e/src/lib.rt": EXPORTED.replace("result ≡ x", "result ≤ x")}, "e::f has other parameters or clauses than c::f"),
+    ({**ARCHIVE, "crates/e/src/lib.rt": EXPORTED.replace("c::f(x)", "c::f(x) + 0")}, "e::f does more than to call"),
+    ({**ARCHIVE, "crates/e/src/lib.rt": EXPORTED.replace("c::f(x)", "c::f(3)")}, "e::f does more than to call"),
+    ({**ARCHIVE, "crates/e/src/lib.rt": EXPORTED.replace("c::f(x)", "c::g(x)")}, "e::f does more than to call"),
+    ({**ARCHIVE, "crates/e/src/lib.rt": EXPORTED + "fn g() -> u8 {\n    0\n}\n"}, "e/lib.rt has a function that is no export"),
+    ({**ARCHIVE, "crates.txt": "c:\ne: c\n"}, "e::f has no row"),
 ]
 
 

@@ -1,4 +1,5 @@
-"""The C header against the Rattle source: nothing else sees that include/endakuro.h declares what crates/api exports.
+"""The C header against the Rattle source: nothing else sees that include/endakuro.h declares what crates/api_c exports, of the structs of
+crates/api and crates/book.
 
 Both are read as declarations: the fields of every struct in order, with their types, offsets and sizes as C lays them out, and the
 parameters and results of every function.
@@ -9,7 +10,7 @@ from pathlib import Path
 
 ROOT = Path(__file__).resolve().parents[1]
 HEADER = ROOT / "include" / "endakuro.h"
-SOURCES = [source for crate in ("api", "book") for source in sorted((ROOT / "crates" / crate / "src").glob("*.rt"))]
+SOURCES = [source for crate in ("api_c", "api", "book") for source in sorted((ROOT / "crates" / crate / "src").glob("*.rt"))]
 
 NUMBERS = {
     "u8": ("uint8_t", 1),
@@ -54,7 +55,7 @@ def rattle_field(name, type_):
 def rattle_structs():
     """Each exported struct: its fields as (type, name, count)."""
     found = {}
-    for name, body in re.findall(r"#\[repr\(C\)\]\s*pub struct (\w+) \{(.*?)\n\}", rattle_text(), re.S):
+    for name, body in re.findall(r"#\[repr\(C\)\]\s*(?:#\[[^\]]*\]\s*)*pub struct (\w+) \{(.*?)\n\}", rattle_text(), re.S):
         fields = re.findall(r"pub (\w+): ([^,]+),", body)
         found[RENAMED.get(name, name)] = [rattle_field(*field) for field in fields]
     return found
@@ -128,7 +129,7 @@ def asserted():
 def differing(what, ours, theirs):
     for name in sorted(ours.keys() | theirs.keys(), key=str):
         if ours.get(name) != theirs.get(name):
-            yield f"{what} {name}: crates/api has {ours.get(name)}, the header {theirs.get(name)}"
+            yield f"{what} {name}: the crates have {ours.get(name)}, the header {theirs.get(name)}"
 
 
 def faults():

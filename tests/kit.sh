@@ -1,10 +1,14 @@
 # Where the Rattle kit is, for the scripts that build or run x86-64 programs with it: `. tests/kit.sh` sets
-#   tools     the kit's compiler, linker, C library and loader for this machine
-#   linker    the kit's own linking of a program with its C library
-#   emulator  the kit's emulator, empty on x86-64
+#   kit       the kit's folder
+#   tools     its compiler, C library and loader for x86-64
+#   linker    its own linking of a program with that C library
+#   emulator  what runs x86-64 programs on another processor: one that the kit has, or this machine's; empty on x86-64
 rt=$(readlink -f "$(command -v rt)") || { echo "$0: no rt on the path" >&2; exit 2; }
 kit=${RATTLE_HOME:-$(dirname "$(dirname "$rt")")}
-tools=$kit/on/$(uname -m)/toolchain
-linker=$kit/on/$(uname -m)/bin/rattle-link
-emulator=$tools/bin/qemu-x86_64
-[ -x "$emulator" ] || emulator=
+tools=$kit/toolchain
+linker=$kit/bin/rattle-link
+emulator=
+if [ "$(uname -m)" != x86_64 ]; then
+    emulator=$tools/bin/qemu-x86_64
+    [ -x "$emulator" ] || emulator=$(command -v qemu-x86_64) || emulator=
+fi

@@ -1,18 +1,17 @@
 """What the tables of crates/promises/specs say of each public function: that it takes any arguments, and has one outcome.
 
-    use Rattle·factors.proofs.cts.Reads as factors-cts                   the contract of factors::cts
-    pub factors-cts-one : OneAnswer factors-cts.Pre factors-cts.Post     a row: both
+    use Rattle.factors.proofs.cts.Reads as factors-cts                   the contract of factors::cts
+    pub factors_cts_one : OneAnswer factors-cts.Pre factors-cts.Post     a row: both
 
-A call on a book behind a pointer has no `Reads`: there the page names the contract's own clauses, and a row `..-one` the fact that they are.
+A call on a book behind a pointer has no `Reads`: there the page names the contract's own clauses, and a row `.._one` the fact that they are.
 """
 
 import re
 
-READS = re.compile(r"^use Rattle·(\w+)\.proofs\.([\w.]+)\.Reads as (\S+)$", re.M)
-WRITTEN = re.compile(r"^use Rattle·(\w+)\.proofs\.([\w.]+) as (\S+)$", re.M)
+READS = re.compile(r"^use Rattle\.(\w+)\.proofs\.([\w.]+)\.Reads as (\S+)$", re.M)
+WRITTEN = re.compile(r"^use Rattle\.(\w+)\.(?:specs\.contracts|proofs)\.([\w.]+) as (\S+)$", re.M)
 # A contract by a name of its own, where a function's module is private.
-NAMED = re.compile(r"^use Rattle·(\w+)\.proofs\.(\w+)\.\{([^}]*)\}$", re.M)
-OWN = re.compile(r"^use Rattle·\w+·proofs\.proofs\.([\w.]+)\.Reads as (\S+)$", re.M)
+NAMED = re.compile(r"^use Rattle\.(\w+)\.proofs\.(\w+)\.\{([^}]*)\}$", re.M)
 
 
 def of(crate, path):
@@ -24,7 +23,7 @@ def named(root, text):
     for crate, file, names in NAMED.findall(text):
         source = root / "crates" / crate / "proofs" / f"{file}.antt"
         body = source.read_text() if source.exists() else ""
-        own = {alias: of(crate, path) for path, alias in OWN.findall(body)}
+        own = {alias: of(crate, path) for _, path, alias in READS.findall(body)}
         for name in names.split(", "):
             found = re.search(rf"^{re.escape(name)} .*= (\S+)\.(Pre|Post)\b", body, re.M)
             if found and found[1] in own:
@@ -44,8 +43,9 @@ def tables(root):
         asked |= {pres[name] for name in re.findall(r": (?:OneAnswer|OneRead|AnyArguments) (\S+)", text) if name in pres}
         fixed |= {posts[name] for name in re.findall(r": (?:(?:OneAnswer|OneRead) \S+|OneLeft) (\S+)", text) if name in posts}
         for crate, path, alias in WRITTEN.findall(text):
-            if re.search(rf"\({re.escape(alias)}\.clauses .* \.requires ", text):
+            if re.search(rf"\({re.escape(alias)}\.clauses .*\)\.requires ", text):
                 asked.add(of(crate, path))
-            if f" {alias}.ensures-1 " in text and f"pub {alias}-one :" in text:
+            row = "[-_]".join(map(re.escape, re.split("[-_]", alias)))
+            if f" {alias}.ensures" in text and re.search(rf"^ *pub {row}[-_]one :", text, re.M):
                 fixed.add(of(crate, path))
     return asked, fixed

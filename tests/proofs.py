@@ -1,7 +1,8 @@
 """What a reader of the definitions and proofs would mark down, found by reading their text.
 
 - an imported name that the file does not use, and a law that nothing cites: no proof, no page of docs/
-- a line of over 250 characters, and a chain of five `.before` or more, which wants a name
+- a line of over 260 characters, and a chain of five `.before` or more, which wants a name. Of a function's own proof these two and its imports
+  are not looked at: goals and steps have the names that rattle makes, and `rt tidy` drops imports there
 - `unfolding` in specs/: a definition says what it means without opening another
 - `cc` in a function's own proof: where the program is wrong it runs to its bound, which takes long and shows nothing
 - docs/ARCHITECTURE.md's table against crates.txt and the lines that the crates have
@@ -17,20 +18,27 @@ ROOT = pathlib.Path(__file__).resolve().parent.parent
 CRATES = ROOT / "crates"
 PAGES = [ROOT / "README.md", *sorted((ROOT / "docs").rglob("*.md"))]
 KIT = {"check", "libc", "io", "os", "bytes"}
-WIDTH = 250
+WIDTH = 260
 # A name in antt is made of anything but blanks and these.
-EDGE = r"[\s(){},;.⌜⌝]"
+EDGE = r"[\s(){},;.]"
 LAW = re.compile(r"^\s*(?:abbrev |unfoldable )?(?:pub )?([^\s(){};.:=]+) :(?: |$)")
-CLOSING = re.compile(r"-spec$")
+# The files of a function's own proof. In Invariants.antt each name is one of rattle's, and in Answers.antt each that is of a goal.
+OWN = ("Answers.antt", "Invariants.antt", "Proof.antt")
+ANSWER = re.compile(r"^\s*(?:abbrev |unfoldable )?(?:pub )?(\S+) : goal\.\1$")
 CLOSURE = re.compile(rf"(?:^|{EDGE})cc(?:{EDGE}|$)")
-CHAIN = re.compile(r"(?: \.before){5}")
+CHAIN = re.compile(r"(?:\.before){5}")
 # The place that a chain leads to, named: by a definition of its own, or by a let.
-NAMED = re.compile(r"^\S+ c = c(?: \.before)+$|let \S+ = \w+(?: \.[\w-]+)+ in")
+NAMED = re.compile(r"^\S+ c = c(?:\.before)+$|let \S+ = \w+(?:\.[\w-]+)+ in")
+
+
+def is_own(path):
+    """Whether a file is of a function's own proof, in a folder of its name below proofs/."""
+    return path.name in OWN and path.parent.name != "proofs"
 
 
 def parts(name):
-    """The visible parts of a name: an operator such as _≤_ is used by its sign."""
-    return [part for part in name.split("_") if part] if "_" in name else [name]
+    """The visible parts of a name: an operator such as ◌≤◌ is used by its sign."""
+    return [part for part in name.split("◌") if part] if "◌" in name else [name]
 
 
 def stands(word, text):
@@ -55,7 +63,7 @@ def split_text(path):
 
 def unused_imports(path):
     imports, rest = split_text(path)
-    for line in imports:
+    for line in imports if not is_own(path) else ():
         listed = re.match(r"use \S+\.\{(.*)\}$", line)
         for name in listed.group(1).split(", ") if listed else []:
             if not uses(name, rest):
@@ -67,19 +75,21 @@ def unused_imports(path):
 
 def shapes(path):
     for number, line in enumerate(path.read_text().split("\n"), 1):
-        if WIDTH < len(line) and not line.startswith("use ") and not line.lstrip().startswith(("unfolding", "--")):
+        if not is_own(path) and WIDTH < len(line) and not line.startswith("use ") and not line.lstrip().startswith(("unfolding", "--")):
             yield f"line {number} has {len(line)} characters"
-        if CHAIN.search(NAMED.sub("", line)):
+        if not is_own(path) and CHAIN.search(NAMED.sub("", line)):
             yield f"line {number} has five .before in a row and no name for them"
         if path.parent.name == "specs" and line.strip().startswith("unfolding "):
             yield f"line {number} opens a definition"
-        if path.name == "Proof.antt" and not line.lstrip().startswith("--") and CLOSURE.search(line):
+        if is_own(path) and not line.lstrip().startswith("--") and CLOSURE.search(line):
             yield f"line {number} proves by cc, which a wrong program makes run to its bound"
 
 
 def laws(path):
-    """The names that a file declares, with their depth; what a record or data type holds belongs to it and is not listed."""
+    """The names that a file declares, with their depth; what a record or data type holds belongs to it and is not listed, nor is an answer."""
     inside = None
+    if is_own(path) and path.name == "Invariants.antt":
+        return
     for line in path.read_text().split("\n"):
         depth = len(line) - len(line.lstrip())
         if inside is not None and line.strip() and depth <= inside:
@@ -87,7 +97,7 @@ def laws(path):
         if re.match(r"\s*(pub )?(record|data) ", line):
             inside = depth
             continue
-        if inside is None and (found := LAW.match(line)) and not re.match(r"\s*(use|module|mod|infix)\b", line):
+        if inside is None and (found := LAW.match(line)) and not ANSWER.match(line) and not re.match(r"\s*(use|module|mod|infix)\b", line):
             yield found.group(1), depth
 
 
@@ -96,8 +106,6 @@ def unused_laws(texts, pages):
         if "proofs" not in path.parts or "promises" in path.parts:
             continue
         for name, depth in laws(path):
-            if CLOSING.search(name) or name.startswith(("Inv-", "μ-")):
-                continue
             said = re.compile(rf"(?:^|{EDGE}){re.escape(name)}(?={EDGE}|$)", re.M)
             head = re.compile(rf"^ {{{depth}}}(?:abbrev |unfoldable )?(?:pub )?{re.escape(name)}(?={EDGE}|$)", re.M)
             if len(said.findall(text)) > len(head.findall(text)):
@@ -106,6 +114,11 @@ def unused_laws(texts, pages):
                 continue
             if not any(f"`{name}`" in page for page in pages):
                 yield path, f"{name} is cited nowhere"
+
+
+def written(pattern):
+    """The crates' files of a kind, and not what rt makes."""
+    return (path for path in CRATES.rglob(pattern) if "out" not in path.relative_to(CRATES).parts[1:2])
 
 
 def count(folder, pattern, mark):
@@ -117,7 +130,7 @@ def crates():
     for line in (ROOT / "crates.txt").read_text().split("\n"):
         if line and not line.startswith("#"):
             name, _, below = line.partition(":")
-            yield name.strip(), [crate for crate in below.split() if crate not in KIT]
+            yield name.split()[0], [crate for crate in below.split() if crate not in KIT]
 
 
 def table_rows():
@@ -153,10 +166,10 @@ def table_faults(show):
 
 def main():
     show = "--table" in sys.argv
-    paths = sorted(path for path in CRATES.rglob("*.antt"))
+    paths = sorted(written("*.antt"))
     faults = [f"{path.relative_to(ROOT)}: {fault}" for path in paths for fault in (*unused_imports(path), *shapes(path))]
     texts = {path: split_text(path)[1] for path in paths}
-    sources = {path: path.read_text() for path in CRATES.rglob("*.rt")}
+    sources = {path: path.read_text().replace("::", " ") for path in written("*.rt")}
     pages = [page.read_text() for page in PAGES]
     faults += [f"{path.relative_to(ROOT)}: {fault}" for path, fault in unused_laws({**texts, **sources}, pages)]
     faults += list(table_faults(show))

@@ -15,11 +15,15 @@ from front import build
 KIT = Path(shutil.which("rt")).resolve().parents[1]
 # Prints as rt does, and like rt leaves a program that is there as it is; it fails where a file beside it says so.
 STAND_IN = """#!/bin/sh
-echo "$@" >> {log}
-[ -f {fails} ] && {{ echo "rt: group: not proved: the reason"; exit 1; }}
-for name in {names}; do echo "rt: $name proved"; done
-mkdir -p {root}/target/bin
-[ -f {root}/target/bin/endakuro ] || cp {binary} {root}/target/bin/endakuro
+echo "$(pwd -P): $*" >> {log}
+[ -f {fails} ] && {{ echo "fn group::choose: no proof: the reason"; exit 1; }}
+for name in {names}; do
+    echo "rt: chose --jobs 2 for $name" >&2
+    echo "logic=proved functions=7" >&2
+done
+mkdir -p out
+[ -f out/endakuro ] || cp {binary} out/endakuro
+echo "rt: running out/endakuro; to give it other input, run that file yourself" >&2
 """
 
 
@@ -39,10 +43,11 @@ class Fresh:
         self.source = self.root / "crates" / "group" / "src" / "lib.rt"
         self.source.parent.mkdir(parents=True)
         self.source.write_text("")
+        self.out = self.root / "crates" / "endakuro" / "out"
+        self.out.parent.mkdir()
         self.tools.mkdir()
         rt = self.tools / "rt"
-        names = " ".join(sorted(build.crates()))
-        given = {"log": self.log, "fails": self.fails, "root": self.root, "binary": build.BINARY, "names": names}
+        given = {"log": self.log, "fails": self.fails, "binary": build.BINARY, "names": " ".join(build.crates())}
         rt.write_text(STAND_IN.format(**given))
         rt.chmod(0o755)
         self.env = os.environ | {"PATH": f"{self.tools}:{os.environ['PATH']}", "RATTLE_HOME": str(KIT)}
@@ -71,10 +76,10 @@ def first_use(tally, fresh):
     status, out, err = fresh.run()
     tally.same((status, fresh.builds), (0, 1), "first use: status and builds")
     tally.holds(out, "493.17 bbl", "first use")
-    tally.same(fresh.log.read_text(), "check endakuro\n", "what rt is asked")
+    tally.same(fresh.log.read_text(), f"{fresh.out.parent.resolve()}: run\n", "what rt is asked, and where")
     tally.holds(err, f"first use: proving endakuro and what it stands on, {total} crates", "first use")
     lines = [line for line in err.splitlines() if line.startswith("  ")]
-    expected = [f"  {at} of {total}: {name} proved" for at, name in enumerate(sorted(build.crates()), 1)]
+    expected = [f"  {at} of {total}: {name} proved" for at, name in enumerate(build.crates(), 1)]
     tally.same(lines, expected, "progress")
 
 
@@ -82,8 +87,8 @@ def later_use(tally, fresh):
     status, _, err = fresh.run()
     tally.same((status, err, fresh.builds), (0, "", 1), "second use: nothing is built")
     now = time.time()
-    for name, ago in (("crates", 200), ("target", 100)):
-        for place in (fresh.root / name).rglob("*"):
+    for folder, ago in ((fresh.root / "crates", 200), (fresh.out, 100)):
+        for place in folder.rglob("*"):
             os.utime(place, (now - ago, now - ago))
     os.utime(fresh.root / "crates.txt", (now - 200, now - 200))
     wrong = fresh.source.parents[1] / "must-fail" / "wave_1.edit"
@@ -98,7 +103,7 @@ def later_use(tally, fresh):
 
 
 def terminal(tally, fresh):
-    shutil.rmtree(fresh.root / "target")
+    shutil.rmtree(fresh.out)
     status, shown = at_terminal(fresh.command, env=fresh.env)
     total = len(build.crates())
     tally.same(status, 0, "first use at a terminal")
@@ -112,24 +117,24 @@ def other_commands(tally, fresh):
         (["rework", job, "--csv", "-"], "", "accepted"),
         (["lines"], "cpl 0 0 0 4\n", "ok 10000\n"),
     ):
-        shutil.rmtree(fresh.root / "target")
+        shutil.rmtree(fresh.out)
         pipes = {"input": given, "capture_output": True, "text": True}
         done = subprocess.run([launcher, *words], env=fresh.env, timeout=60, **pipes)
         tally.same(done.returncode, 0, f"{words[0]} on first use: {done.stderr!r}")
         tally.holds(done.stdout, expected, f"{words[0]} on first use")
-    shutil.rmtree(fresh.root / "target")
+    shutil.rmtree(fresh.out)
     before = fresh.builds
     tally.holds(run_plain([launcher, "--version"], fresh.env)[1], "not built yet", "--version before first use")
     tally.same((run_plain([launcher, "new", "prove"], fresh.env)[0], fresh.builds), (0, before), "new builds nothing")
-    (fresh.root / "target").mkdir()
+    fresh.out.mkdir()
 
 
 def failing(tally, fresh):
-    shutil.rmtree(fresh.root / "target")
+    shutil.rmtree(fresh.out)
     fresh.fails.touch()
     status, out, err = fresh.run()
     tally.same((status, out), (3, ""), "a build that fails")
-    tally.holds(err, "rt check endakuro failed:\nrt: group: not proved: the reason", "a build that fails")
+    tally.holds(err, "rt run failed in crates/endakuro:\nfn group::choose: no proof: the reason", "a build that fails")
     bare = {"PATH": "/nowhere", "RATTLE_HOME": str(KIT)}
     python = shutil.which("python3")
     status, _, err = run_plain([python, *fresh.command], bare)
