@@ -7,7 +7,7 @@
 - `cc` in a function's own proof: where the program is wrong it runs to its bound, which takes long and shows nothing
 - docs/ARCHITECTURE.md's table against crates.txt and the lines that the crates have
 
-Run: python3 tests/proofs.py    --table prints the table's rows as they should be (seconds are kept)
+Run: python3 tests/proofs.py    --table writes the table's rows as they should be (seconds are kept)
 """
 
 import pathlib
@@ -145,37 +145,40 @@ def table_rows():
     return rows, [f"{n:,}" for n in total]
 
 
-def table_faults(show):
+def table_faults(writes):
+    """Where the table differs; with `writes` it is written as it should be."""
+    page = ROOT / "docs" / "ARCHITECTURE.md"
     rows, total = table_rows()
-    told = {}
-    for line in (ROOT / "docs" / "ARCHITECTURE.md").read_text().split("\n"):
+    told, lines = {}, page.read_text().split("\n")
+    for number, line in enumerate(lines):
         cells = [cell.strip() for cell in line.strip("|").split("|")]
+        name = cells[0].strip("`")
         if len(cells) == 8 and re.fullmatch(r"`\w+`", cells[0]):
-            told[cells[0].strip("`")] = cells[2:7]
-            if show:
-                name = cells[0].strip("`")
-                print("| " + " | ".join([cells[0], cells[1], *rows.get(name, cells[2:7]), cells[7]]) + " |")
-        elif len(cells) == 8 and cells[0] == "all":
+            told[name] = cells[2:7]
+            lines[number] = "| " + " | ".join([*cells[:2], *rows.get(name, cells[2:7]), cells[7]]) + " |"
+        elif len(cells) == 8 and name == "all":
             told["all"] = cells[3:7]
-            if show:
-                print("| " + " | ".join(["all", "", "", *total, cells[7]]) + " |")
+            lines[number] = "| " + " | ".join(["all", "", "", *total, cells[7]]) + " |"
+    if writes:
+        page.write_text("\n".join(lines))
+        return
     for name, row in {**rows, "all": total}.items():
         if told.get(name) != row:
             yield f"docs/ARCHITECTURE.md: {name} is {told.get(name)} there and {row} here"
 
 
 def main():
-    show = "--table" in sys.argv
+    if "--table" in sys.argv:
+        list(table_faults(True))
     paths = sorted(written("*.antt"))
     faults = [f"{path.relative_to(ROOT)}: {fault}" for path in paths for fault in (*unused_imports(path), *shapes(path))]
     texts = {path: split_text(path)[1] for path in paths}
     sources = {path: path.read_text().replace("::", " ") for path in written("*.rt")}
     pages = [page.read_text() for page in PAGES]
     faults += [f"{path.relative_to(ROOT)}: {fault}" for path, fault in unused_laws({**texts, **sources}, pages)]
-    faults += list(table_faults(show))
-    if not show:
-        for fault in faults:
-            print(fault)
+    faults += list(table_faults(False))
+    for fault in faults:
+        print(fault)
     print(f"proofs: {len(paths)} files, {len(faults)} faults")
     return 1 if faults else 0
 
