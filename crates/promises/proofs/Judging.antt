@@ -30,7 +30,7 @@ use Rattle.draw.specs.Base.{base_of}
 use Rattle.draw.specs.Answers.{record_fault as record_fault_of_fill, fill_fault, fills_fault, draw_fault, count_of, draw_of}
 use Rattle.draw.specs.declared.Profile.{Profile}
 use Rattle.promises.specs.Records.{Lent, Every}
-use Rattle.promises.specs.Proving.{Asked, SettingsInOrder, RunInOrder, RunWithin, InputWithin, FiguresWithin, FiveMeet, Acceptable}
+use Rattle.promises.specs.Proving.{Asked, SettingsInOrder, RunInOrder, RunWithin, FiguresWithin, FiveMeet, Acceptable}
 use Rattle.promises.specs.WaterDraw as water
 use Rattle.promises.specs.WaterDraw.{FillInOrder, FillsInOrder, ThreeMeet}
 use Rattle.promises.specs.Causes.{ProvingCause, JobCause, PassesCause, DrawCause}

@@ -11,7 +11,7 @@ use Rattle.refusals.specs.Table.{number_of, record_of}
 use Rattle.refusals.specs.declared.Refusal.{Refusal}
 use Rattle.refusals.specs.declared.Refusal.TheVariants.{BookNotSound, UnknownShipper, NumberZero, AlreadyWaiting, CeilingReached, CommonsFull, NotWaiting, NothingToTake, BookNotEmpty, FiguresOutside}
 use Rattle.octets.specs.Lists.{is_one_of}
-use Rattle.book.specs.Answers.{Handed, told_change, told_take}
+use Rattle.book.specs.Answers.{told_change, told_take}
 use Rattle.book.specs.Figures.{shippers, ceiling, waiting_of, has, held}
 use Rattle.book.specs.Rules.{keep_rules}
 use Rattle.book.specs.Calls.{call_fault, has_room, entry_fault, request_fault, request_of, after_request, withdrawal_fault, withdrawal_of, after_withdrawal, next_turn, oldest_of, handed_out, take_of, after_take, setting_fault, setting_of, after_setting}

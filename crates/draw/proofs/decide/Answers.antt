@@ -9,7 +9,7 @@ use Rattle.refusals.specs.Told.{done}
 use Rattle.group.specs.Repeatability.{first_group, place_of}
 use Rattle.group.proofs.Groups.{first_found, part_is_group}
 use Rattle.draw.specs.Base.{base_from, base_of}
-use Rattle.draw.proofs.decide.Goals.{After-shared_slice_known-1, In-At}
+use Rattle.draw.proofs.decide.Goals.{In-At}
 use Rattle.draw.proofs.decide.Goals as goal
 
 abbrev volumes : In-At → List ℕ

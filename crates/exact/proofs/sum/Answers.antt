@@ -1,6 +1,6 @@
 -- `exact::sum` meets its contract. The loop's invariant: the sum so far, with the values to come, is the sum of all; its upper word has
 -- carried at most once a value.
-use Prim.Native.Nat.{ℕ, ◌+◌, ◌-◌}
+use Prim.Native.Nat.{ℕ, ◌+◌}
 use mathlib.Core.Path.{◌≡◌, ◌∙◌, ap}
 use mathlib.Core.List.{◌∷◌}
 use native.Mathlib.Omega.{arith}

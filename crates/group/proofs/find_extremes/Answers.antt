@@ -1,5 +1,5 @@
 -- `group::find_extremes` meets its contract. The loop's invariant: low and high, with the values to come, have the smallest and the largest of all.
-use Prim.Native.Nat.{ℕ, ◌+◌, ◌-◌}
+use Prim.Native.Nat.{ℕ, ◌+◌}
 use mathlib.Core.Path.{◌∙◌, ap}
 use mathlib.Core.List.{◌∷◌}
 use lib.ListN.{drop}

@@ -1,6 +1,5 @@
 -- `moving::judge_records` meets its contract. The loop's invariant: what is found from the first record on is what is found from record i on.
 use mathlib.Core.Path.{sym, ◌∙◌, ap}
-use Prim.Native.Nat.{◌-◌}
 use native.Mathlib.Omega.{arith}
 use Rattle.octets.proofs.FirstToLast.{faults, next, scan_hit, done}
 use Rattle.moving.specs.Judging.{move_fault}

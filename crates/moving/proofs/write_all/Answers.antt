@@ -1,7 +1,7 @@
 -- `moving::write_all` meets its contract. The loop's invariant: the first so many records stand in their places, and the rest is as it was.
 use mathlib.Core.List.{List}
 use mathlib.Core.Path.{◌≡◌, ap, sym, ◌∙◌}
-use Prim.Native.Nat.{ℕ, ◌*◌, ◌-◌}
+use Prim.Native.Nat.{ℕ, ◌*◌}
 use native.Mathlib.Omega.{arith}
 use Rattle.octets.specs.Octets.{written_at}
 use Rattle.octets.specs.Records.{joined}

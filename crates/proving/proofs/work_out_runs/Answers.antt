@@ -1,7 +1,7 @@
 -- `proving::work_out_runs` meets its contract. The loop's invariant: no run before i is at fault, and the array holds the factors of those runs.
 use mathlib.Core.List.{List}
 use mathlib.Core.Path.{◌≡◌, ap, sym, ◌∙◌}
-use Prim.Native.Nat.{ℕ, ◌+◌, ◌-◌}
+use Prim.Native.Nat.{ℕ, ◌+◌}
 use native.Mathlib.Omega.{arith}
 use lib.ListN.{length-set}
 use Rattle.refusals.specs.Told.{Fault, judged}

@@ -20,8 +20,8 @@ pub returns : goal.returns
 unfolding figures_of measure_cts prover_cts metal_ok
 returns c = let fill = c.args.fill in
     let f = fields fill c.requires.1 in
-    let measure = cts-at c.cts.result (Certified fill.coefficient) fill.measure c.struct_told-1.given.1.1.1.0.1 c.value_or_zero-measure.ensures c.cts.ensures f.coefficient f.measure in
-    let prover = cts-at c.cts-2.result c.args.metal fill.prover c.struct_told-2-1.given.1.1.0.1 c.value_or_zero-prover.ensures c.cts-2.ensures c.requires.0 f.prover in
+    let measure = cts-at c.cts.result (Certified fill.coefficient) fill.measure (omega arith) c.value_or_zero-measure.ensures c.cts.ensures f.coefficient f.measure in
+    let prover = cts-at c.cts-2.result c.args.metal fill.prover (omega arith) c.value_or_zero-prover.ensures c.cts-2.ensures c.requires.0 f.prover in
     let factor = c.round_or_zero-ccts.ensures ∙ ccts_value c.args.metal fill c.requires.0 c.requires.1 measure prover in
     let all = c.round_or_zero-drawn.ensures ∙ drawn_value c.args.metal fill c.requires.0 c.requires.1 c.adjust-adjusted.ensures factor in
     λ i. record { adjusted = c.adjust-adjusted.ensures i; measure = measure i; prover = prover i; ccts = factor i; drawn = all i }

@@ -1,6 +1,5 @@
 -- `draw::judging::judge_fills` meets its contract. The loop's invariant: the first fault of all is the first from record i on.
 use mathlib.Core.Path.{sym, ap, ◌∙◌}
-use Prim.Native.Nat.{◌-◌}
 use native.Mathlib.Omega.{arith}
 use Rattle.octets.proofs.FirstToLast.{faults, next, done, scan_hit}
 use Rattle.refusals.specs.Verdict.{fault_of}

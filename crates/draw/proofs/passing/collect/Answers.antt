@@ -1,6 +1,5 @@
 -- `draw::passing::collect` meets its contract. The loop's invariant: the array holds the volumes 1 to i, and zeros after them.
 use mathlib.Core.Path.{refl, ap, ◌∙◌}
-use Prim.Native.Nat.{◌-◌}
 use native.Mathlib.Omega.{arith}
 use Rattle.octets.specs.Records.{zeros_after}
 use Rattle.group.specs.Listed.{listed}

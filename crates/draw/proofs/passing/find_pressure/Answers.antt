@@ -1,6 +1,6 @@
 -- `draw::passing::find_pressure` meets its contract. The loop's invariant: the pass's first fill is the first from record i on.
 use mathlib.Core.Path.{refl, sym, ap}
-use Prim.Native.Nat.{◌/◌, ◌<◌, ◌-◌}
+use Prim.Native.Nat.{◌/◌, ◌<◌}
 use native.Mathlib.Omega.{arith}
 use lib.ListN.{length}
 use Rattle.ranges.specs.Table.{pressure_ok}
