@@ -26,7 +26,8 @@ class BuildFailed(Exception):
 
 
 def crates():
-    """The crates to prove, by crates.txt: the program's own and all that it stands on, each after those that it uses, as rt takes them."""
+    """The crates to prove, by crates.txt: the program's own and all that it stands on, each after those that it uses,
+    as rt takes them."""
     needs = {}
     for line in (ROOT / "crates.txt").read_text().splitlines():
         if line and not line.startswith("#"):
@@ -54,7 +55,8 @@ def is_current():
 
 
 def within(folder):
-    """All files and folders of a crate that are part of the program. By scandir: they are looked at before every command."""
+    """All files and folders of a crate that are part of the program. By scandir: they are looked at before every
+    command."""
     if not os.path.isdir(folder):
         return
     with os.scandir(folder) as places:

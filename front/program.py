@@ -55,7 +55,7 @@ class Program:
             self.process.stdin.close()
         except BrokenPipeError:
             pass
-        # An answer that nobody waits for any more is taken all the same, since a write that fails ends the program with an error.
+        # An answer that nobody waits for any more is taken all the same: a write that fails would end in an error.
         self.process.stdout.read()
         self.process.stdout.close()
         self.process.wait()

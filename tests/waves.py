@@ -3,7 +3,8 @@
 An edit is a wave: wrong programs of different functions, tried in one check. `rt ci` sees that the crate as a whole is refused; this
 test sees that each of them is, in its own function, and because a fact no longer holds there. It runs after `rt ci`, over the libraries
 that it has left; tests/tries.py has how. A wrong program that its wave does not show, as when a function that it calls is wrong too, is
-tried once more alone.
+tried once more alone. One is told apart of which the prover says no more than that a goal, which its search closes in the program as it
+stands, is not closed within the search's limits.
 
     # LABEL in FUNCTION: what the paper says instead
     file: src/lib.rt
@@ -143,14 +144,14 @@ def refusals(crate, function, log):
         yield "fact" if FALSE in more or is_whole and LIMIT not in more else "limit" if is_whole else "form", f"`{goal}` is not proved{more}"
 
 
-def faults_of(crate, wrong, log, changes, is_alone):
+def faults_of(crate, wrong, log, changes):
     if changes == "definition":
         if not any(is_fact(text) for _, text in errors(log)) and FALSE not in log:
             yield f"{wrong.label} (a definition): the log has no fact that fails"
         return
     said = list(refusals(crate, wrong.function, log))
     found = {kind for kind, _ in said}
-    if "fact" in found or "limit" in found and is_alone:
+    if found & {"fact", "limit"}:
         return
     if not said:
         yield f"{wrong.label}: nothing is refused in {wrong.function}"
@@ -169,12 +170,12 @@ def text_faults(edit):
 
 
 def at_limit(crate, wrong, folder, tried):
-    """Whether a goal of the function's that a search closes in the program as it stands is not closed, because the search stops at a limit, and
-    nothing more is known of it: so it may be in one that is tried alone."""
+    """Whether no more is known of a refused wrong program than that a goal of its function, which a search closes in the program as it stands, is
+    not closed, since the search stops at a limit of its own."""
     return kind(wrong, folder) != "definition" and not any(what == "fact" for what, _ in refusals(crate, wrong.function, tried[1]))
 
 
-def log_faults(crate, wrongs, folder, tried, is_alone=False):
+def log_faults(crate, wrongs, folder, tried):
     """Each of these wrong programs, with what is amiss with what the prover said when they were tried together."""
     status, said = tried
     for wrong in wrongs:
@@ -184,7 +185,7 @@ def log_faults(crate, wrongs, folder, tried, is_alone=False):
             last = (said.rstrip("\n") or "nothing").rpartition("\n")[2]
             yield wrong, f"{wrong.label}: {'the crate is still proved' if status == 0 else f'no verdict, status {status}'}: {last[:160]}"
         else:
-            for fault in faults_of(crate, wrong, said, kind(wrong, folder), is_alone or len(wrongs) == 1):
+            for fault in faults_of(crate, wrong, said, kind(wrong, folder)):
                 yield wrong, fault
 
 
@@ -196,18 +197,17 @@ def run(root, crates, logs):
             faults += [f"{edit.parent.parent.name}/{edit.stem}: {fault}" for fault in found]
     tried = logs({edit: [pair for wrong in wrongs for pair in wrong.pairs] for edit, wrongs in waves.items() if wrongs})
     for edit, wrongs in waves.items():
-        if wrongs:
-            crate, found = edit.parent.parent.name, list(log_faults(edit.parent.parent.name, wrongs, edit.parent.parent, tried[edit]))
-            for wrong, fault in found:
-                alone[edit.with_name(f"{edit.stem}.{wrong.label}")] = edit, wrong, fault
-            if len(wrongs) == 1 and not found and at_limit(crate, wrongs[0], edit.parent.parent, tried[edit]):
-                limits.append(f"{crate}/{wrongs[0].label}")
+        crate, folder, amiss = edit.parent.parent.name, edit.parent.parent, set()
+        for wrong, fault in log_faults(crate, wrongs, folder, tried[edit]) if wrongs else ():
+            alone[edit.with_name(f"{edit.stem}.{wrong.label}")] = edit, wrong, fault
+            amiss.add(wrong.label)
+        limits += [f"{crate}/{wrong.label}" for wrong in wrongs if wrong.label not in amiss and at_limit(crate, wrong, folder, tried[edit])]
     # one that its wave does not show is tried alone, where it stood beside others
     again = logs({place: wrong.pairs for place, (edit, wrong, _) in alone.items() if len(waves[edit]) > 1})
     for place, (edit, wrong, fault) in alone.items():
-        crate = edit.parent.parent.name
-        found = [fault for _, fault in log_faults(crate, [wrong], edit.parent.parent, again[place], True)] if place in again else [fault]
-        if not found and at_limit(crate, wrong, edit.parent.parent, again[place]):
+        crate, folder = edit.parent.parent.name, edit.parent.parent
+        found = [fault for _, fault in log_faults(crate, [wrong], folder, again[place])] if place in again else [fault]
+        if not found and at_limit(crate, wrong, folder, again[place]):
             limits.append(f"{crate}/{wrong.label}")
         faults += [f"{crate}/{edit.stem}: {fault}" for fault in found]
     for edit, wrongs in waves.items():
