@@ -1,5 +1,5 @@
 -- The customer's third demand, sentence by sentence, about the meanings that the contracts of `request`, `withdraw` and
--- `take` cite. Nearly all of it holds of any sound book, and calls in any order leave a sound book sound (`always-sound`); what
+-- `take` cite. Nearly all of it holds of any sound book, and calls in any order leave a sound book sound (`always_sound`); what
 -- was counted from the first call on holds from any sound, empty book. The figures are the book's own: `reserve`, `ceiling` and
 -- `commons`; the customer's, 2, 8 and 8, are those of a new book (`default-figures`).
 use mathlib.Core.Path.{◌≡◌, refl, sym, ap, ◌∙◌, subst}

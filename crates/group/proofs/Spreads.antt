@@ -46,7 +46,7 @@ pub none_of_none : (xs : List ℕ) → smallest xs ≡ 0 → refused 9 0 ≡ spr
 unfolding spread_of has_spread
 none_of_none xs is = ap (λ (n : ℕ). judged (demand (leb 1 n && ltb (spread_in xs) (2 ^ 64)) 9) (record { smallest = smallest xs; largest = largest xs; spread = spread_in xs })) (sym is)
 
--- `toldSpread` loses nothing
+-- `told_spread` loses nothing
 pub spread_one : (a b : Spread) → told_spread a ≡ told_spread b → a ≡ b
 spread_one (Worked x) (Worked y) is = ap Worked (done_one is)
 spread_one (Worked x) (Refused why) is = cc

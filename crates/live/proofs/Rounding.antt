@@ -1,4 +1,4 @@
--- The rounding law: what `awayFromZero` gives is nearest, on a half the one away from zero, and no other whole number is.
+-- The rounding law: what `away_from_zero` gives is nearest, on a half the one away from zero, and no other whole number is.
 use mathlib.Core.Path.{◌≡◌, refl, sym, ap, ◌∙◌}
 use mathlib.Core.Bool.{Bool, true, false}
 use mathlib.Core.Logic.{inl, inr}

@@ -1,5 +1,5 @@
 -- The laws of 'first to last', once for every kind of search. A search for x of which the places below i have been
--- passed stands at `x ≡ firstToLast or nothing f (n - i) i`, n being one past the last place: the invariant of every loop.
+-- passed stands at `x ≡ first_to_last or nothing f (n - i) i`, n being one past the last place: the invariant of every loop.
 use mathlib.Core.Path.{◌≡◌, refl, sym, ◌∙◌, ap}
 use mathlib.Core.Logic.{◌⊎◌, inl, inr, ⊎_elim}
 use mathlib.Core.Bool.{Bool, true, false, ◌&&◌, cond}

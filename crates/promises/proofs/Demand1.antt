@@ -330,7 +330,7 @@ pub commons_end : (book : Book) → Ends commons_numbers 0 0 (commons_of book)
 unfolding commons_of is_one_of marked_of record_ok refusal_ok
 commons_end book = by_judged _ (by_demand (is_sound book) 20 refl)
 
--- ---- 'A refusal writes nothing into a lent buffer': `leftBy t found` is the buffer that the writer and the job leave where they tell t
+-- ---- 'A refusal writes nothing into a lent buffer': `left_by t found` is the buffer that the writer and the job leave where they tell t
 
 pub left_as_found : {A B : Type 0} {t : Told A} {number at : ℕ} (leaves : A → B) (found : B) → t ≡ refused number at → left_by t leaves found ≡ found
 left_as_found {A} leaves found is = ap (λ (t : Told A). left_by t leaves found) is

@@ -1,4 +1,4 @@
--- A look_up, exactly: the nearest half degree, the record with the pair, and each refusal for its cause.
+-- A look-up, exactly: the nearest half degree, the record with the pair, and each refusal for its cause.
 use mathlib.Core.Path.{◌≡◌, refl, sym, ap, ◌∙◌}
 use mathlib.Core.Logic.Iff
 use mathlib.Core.Logic.{by_cases}
@@ -96,7 +96,7 @@ unfolding half_degree_signed
 halves (pos n) = halves_up n
 halves (negsuc k) = turned (pos (suc k)) (pos (half_degree (suc k))) (halves_up (suc k))
 
--- ---- a look_up, judged in order
+-- ---- a look-up, judged in order
 
 module _ (t : ℤ) (g : ℕ) (s : List ℕ) where
   abbrev n : ℕ
