@@ -16,6 +16,9 @@ use Rattle.book.proofs.judge.hand_out.Goals as goal
 sound : (c : Start) → SoundBook c.args.book
 sound c = sound_is c.args.book c.requires
 
+pub loop-turn-init : goal.loop-turn-init
+loop-turn-init c = (omega arith, omega arith, λ j l h. absurd (omega arith))
+
 pub overflow_add-shipper : goal.overflow_add-shipper
 overflow_add-shipper c = let turn = (sound (goal.at.overflow_add-shipper c).Start).turn in omega arith
 

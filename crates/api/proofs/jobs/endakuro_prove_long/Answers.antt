@@ -1,0 +1,5 @@
+-- `api::jobs::endakuro_prove_long` meets its contract: a job of long records.
+use Rattle.api.proofs.jobs.endakuro_prove_long.Goals as goal
+
+pub returns : goal.returns
+returns c = c.prove.ensures

@@ -1,0 +1,7 @@
+-- `api::reports::endakuro_write` meets its contract: the answer of `report::write`, flattened, and the bytes that it leaves.
+use mathlib.Core.Path.{ap, ◌∙◌}
+use Rattle.api.specs.Flat.{flat_report}
+use Rattle.api.proofs.reports.endakuro_write.Goals as goal
+
+pub returns : goal.returns
+returns c = (c.flatten.ensures ∙ ap flat_report c.write.ensures.answer, c.write.ensures.left)
