@@ -3,8 +3,7 @@
 An edit is a wave: wrong programs of different functions, tried in one check. `rt ci` sees that the crate as a whole is refused; this
 test sees that each of them is, in its own function, and because a fact no longer holds there. It runs after `rt ci`, over the libraries
 that it has left; tests/tries.py has how. A wrong program that its wave does not show, as when a function that it calls is wrong too, is
-tried once more alone. One is told apart of which the prover says no more than that a goal, which its search closes in the program as it
-stands, is not closed within the search's limits.
+tried once more alone. A search that only stopped at one of its limits says nothing of the wrong program: its function wants an answer.
 
     # LABEL in FUNCTION: what the paper says instead
     file: src/lib.rt
@@ -132,16 +131,16 @@ def open_goals(crate, function, log):
 
 
 def refusals(crate, function, log):
-    """What the check says of a function's own proof: (whether a fact fails, a search stops at a limit or only the form is amiss; its words)."""
+    """What the check says of a function's own proof: (whether a fact fails, or only the form is amiss; its words)."""
     own = "proofs/" + "/".join(function.split("::")) + "/"
     errs = [text for path, text in errors(log) if path.startswith(own)]
     for text in errs:
-        yield "fact" if is_fact(text) else "form", text
+        yield is_fact(text), text
     # What the check proves by itself: it says where the goal is false, or else that no search closes it, which says something where no
-    # answer was lost.
+    # answer was lost and every way was tried.
     is_whole = not any(FORM.search(text) for text in errs)
     for goal, more in open_goals(crate, function, log):
-        yield "fact" if FALSE in more or is_whole and LIMIT not in more else "limit" if is_whole else "form", f"`{goal}` is not proved{more}"
+        yield FALSE in more or is_whole and LIMIT not in more, f"`{goal}` is not proved{more}"
 
 
 def faults_of(crate, wrong, log, changes):
@@ -150,8 +149,7 @@ def faults_of(crate, wrong, log, changes):
             yield f"{wrong.label} (a definition): the log has no fact that fails"
         return
     said = list(refusals(crate, wrong.function, log))
-    found = {kind for kind, _ in said}
-    if found & {"fact", "limit"}:
+    if any(fact for fact, _ in said):
         return
     if not said:
         yield f"{wrong.label}: nothing is refused in {wrong.function}"
@@ -169,12 +167,6 @@ def text_faults(edit):
     return wrongs, faults
 
 
-def at_limit(crate, wrong, folder, tried):
-    """Whether no more is known of a refused wrong program than that a goal of its function, which a search closes in the program as it stands, is
-    not closed, since the search stops at a limit of its own."""
-    return kind(wrong, folder) != "definition" and not any(what == "fact" for what, _ in refusals(crate, wrong.function, tried[1]))
-
-
 def log_faults(crate, wrongs, folder, tried):
     """Each of these wrong programs, with what is amiss with what the prover said when they were tried together."""
     status, said = tried
@@ -190,25 +182,21 @@ def log_faults(crate, wrongs, folder, tried):
 
 
 def run(root, crates, logs):
-    programs, others, waves, faults, alone, limits = 0, [], {}, [], {}, []
+    programs, others, waves, faults, alone = 0, [], {}, [], {}
     for edit in sorted(root.glob("crates/*/must-fail/*.edit")):
         if not crates or edit.parent.parent.name in crates:
             waves[edit], found = text_faults(edit)
             faults += [f"{edit.parent.parent.name}/{edit.stem}: {fault}" for fault in found]
     tried = logs({edit: [pair for wrong in wrongs for pair in wrong.pairs] for edit, wrongs in waves.items() if wrongs})
     for edit, wrongs in waves.items():
-        crate, folder, amiss = edit.parent.parent.name, edit.parent.parent, set()
+        crate, folder = edit.parent.parent.name, edit.parent.parent
         for wrong, fault in log_faults(crate, wrongs, folder, tried[edit]) if wrongs else ():
             alone[edit.with_name(f"{edit.stem}.{wrong.label}")] = edit, wrong, fault
-            amiss.add(wrong.label)
-        limits += [f"{crate}/{wrong.label}" for wrong in wrongs if wrong.label not in amiss and at_limit(crate, wrong, folder, tried[edit])]
     # one that its wave does not show is tried alone, where it stood beside others
     again = logs({place: wrong.pairs for place, (edit, wrong, _) in alone.items() if len(waves[edit]) > 1})
     for place, (edit, wrong, fault) in alone.items():
         crate, folder = edit.parent.parent.name, edit.parent.parent
         found = [fault for _, fault in log_faults(crate, [wrong], folder, again[place])] if place in again else [fault]
-        if not found and at_limit(crate, wrong, folder, again[place]):
-            limits.append(f"{crate}/{wrong.label}")
         faults += [f"{crate}/{edit.stem}: {fault}" for fault in found]
     for edit, wrongs in waves.items():
         for wrong in wrongs:
@@ -219,7 +207,7 @@ def run(root, crates, logs):
                 programs += 1
     labels = collections.Counter((edit.parent.parent.name, wrong.label) for edit in root.glob("crates/*/must-fail/*.edit") for wrong in read_edit(edit.read_text())[0])
     faults += [f"{crate}/{label} stands {count} times" for (crate, label), count in labels.items() if count > 1 and (not crates or crate in crates)]
-    return programs, others, limits, len(waves), len(again), faults
+    return programs, others, len(waves), len(again), faults
 
 
 DIFFER = "`returns`: as printed, the two types differ only where one has `0` (expected) and the other has `1` (found)"
@@ -234,7 +222,7 @@ MADE_UP = [
     ("# a in f: why\nfile: src/lib.rt\nold: x\nnew: y", "./proofs/f/Answers.antt:9:1: error: `returns`: expected type `a ≤ b`\n  but this has type `a < b`", None),
     ("# a in f: why\nfile: src/lib.rt\nold: x\nnew: y", f"{OPEN_GOAL}; the facts known there {FALSE}\n{NO_PROOF}", None),
     ("# a in f: why\nfile: src/lib.rt\nold: x\nnew: y", f"{OPEN_GOAL}\n{NO_PROOF}", None),
-    ("# a in f: why\nfile: src/lib.rt\nold: x\nnew: y", f"{OPEN_GOAL}; `search` {LIMIT}\n{NO_PROOF}", None),
+    ("# a in f: why\nfile: src/lib.rt\nold: x\nnew: y", f"{OPEN_GOAL}; `search` {LIMIT}\n{NO_PROOF}", "no fact fails in f"),
     ("# a in f: why\nfile: src/lib.rt\nold: x\nnew: y", f"{LOST}\n{OPEN_GOAL}; `search` {LIMIT}\n{NO_PROOF}", "only its form"),
     ("# a in f: why\nfile: src/lib.rt\nold: x\nnew: y", f"{LOST}\n{OPEN_GOAL}\n{NO_PROOF}", "only its form"),
     ("# a in f: why\nfile: src/lib.rt\nold: x\nnew: y", f"{LOST}\n{OPEN_GOAL}; the facts known there {FALSE}\n{NO_PROOF}", None),
@@ -311,13 +299,11 @@ def main():
     if wrongly or sys.argv[1:] == ["--self"]:
         return 1 if wrongly else 0
     with tries.Tries(ROOT) as tried:
-        programs, others, limits, edits, alone, faults = run(ROOT, sys.argv[1:], tried.logs)
+        programs, others, edits, alone, faults = run(ROOT, sys.argv[1:], tried.logs)
     for fault in faults:
         print(fault)
     if others:
         print("not programs: " + ", ".join(others))
-    if limits:
-        print("refused at a limit of the search: " + ", ".join(limits))
     print(f"waves: {programs} wrong programs and {len(others)} wrong promises or definitions in {edits} edits, {alone} tried alone, {len(faults)} faults")
     return 1 if faults or not edits else 0
 
