@@ -2,4 +2,4 @@
 use Rattle.api.proofs.jobs.endakuro_prove.Goals as goal
 
 pub returns : goal.returns
-returns c = c.prove.ensures
+returns c = record { answer = c.prove.ensures.answer; left = c.prove.ensures.left }

@@ -11,4 +11,4 @@ use Rattle.api.proofs.jobs.prove.Goals as goal
 pub returns : goal.returns
 returns c = let a = c.args in
     let job = ap (λ (p : Prover). job_of a.request p a.k a.limit a.form a.records.now (length a.buffer.now)) c.take_up-settings.ensures in
-    (c.flatten.ensures ∙ ap flat_report (c.prove.ensures.answer ∙ job), c.prove.ensures.left ∙ (λ i. left_by (job i) bytes_of_report a.buffer.now))
+    record { answer = c.flatten.ensures ∙ ap flat_report (c.prove.ensures.answer ∙ job); left = c.prove.ensures.left ∙ (λ i. left_by (job i) bytes_of_report a.buffer.now) }

@@ -4,4 +4,4 @@ use Rattle.api.specs.Flat.{flat_report}
 use Rattle.api.proofs.reports.endakuro_write.Goals as goal
 
 pub returns : goal.returns
-returns c = (c.flatten.ensures ∙ ap flat_report c.write.ensures.answer, c.write.ensures.left)
+returns c = record { answer = c.flatten.ensures ∙ ap flat_report c.write.ensures.answer; left = c.write.ensures.left }
