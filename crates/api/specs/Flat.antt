@@ -1,10 +1,8 @@
 -- Each answer as one plain struct: number 0 and record 0 (`at`) with the values when done; the paper's number and record, and all values
 -- zero, when refused.
-use Rattle.std.specs.Prelude.{false, List, ℕ, ◌*◌, pos, Float}
+use Rattle.std.specs.Prelude.{false, List, ℕ, ◌*◌, pos, Float, Result, Ok, Err}
 use Rattle.std.specs.Float.{fin}
 use Rattle.refusals.specs.Told.{Told, done, refused}
-use Rattle.exact.specs.declared.Quotient.{Quotient}
-use Rattle.exact.specs.declared.Quotient.TheVariants.{Value, ZeroDivisor, TooLarge}
 use Rattle.report.specs.declared.Report.{Report}
 use Rattle.run.specs.Record.{size_of}
 use Rattle.run.specs.declared.Corrected.{Corrected}
@@ -13,9 +11,10 @@ use Rattle.run.specs.declared.Form.{Form}
 use Rattle.draw.specs.declared.FillFigures.{FillFigures}
 use Rattle.draw.specs.declared.BaseVolume.{BaseVolume}
 use Rattle.ticket.specs.declared.Volumes.{Volumes}
-use Rattle.live.specs.Live.{Values}
+use Rattle.live.specs.declared.Values.{Values}
 use Rattle.lookup.specs.declared.Entry.{Entry}
-use Rattle.book.specs.Answers.{Handed, Shared}
+use Rattle.book.specs.declared.Handed.{Handed}
+use Rattle.book.specs.declared.Shared.{Shared}
 use Rattle.api.specs.declared.corrections.EndakuroFactor.{EndakuroFactor}
 use Rattle.api.specs.declared.quotients.EndakuroQuotient.{EndakuroQuotient}
 use Rattle.api.specs.declared.reports.EndakuroReport.{EndakuroReport}
@@ -32,6 +31,8 @@ use Rattle.api.specs.declared.moves.EndakuroMoved.{EndakuroMoved}
 use Rattle.api.specs.declared.books.EndakuroDone.{EndakuroDone}
 use Rattle.api.specs.declared.books.EndakuroTaken.{EndakuroTaken}
 use Rattle.api.specs.declared.books.EndakuroCommons.{EndakuroCommons}
+use Rattle.exact.specs.declared.QuotientError.TheVariants.{ZeroDivisor, TooLarge}
+use Rattle.exact.specs.declared.QuotientError.{QuotientError}
 
 -- the paper's number; 0 when done
 abbrev pub number_in : {A : Type 0} → Told A → ℕ
@@ -219,7 +220,7 @@ unfoldable pub flat_commons : Told Shared → EndakuroCommons
 flat_commons t = commons_with (number_in t) (record_in t) (values_in no_commons t)
 
 -- a rounded quotient, or why there is none; the paper has no number for these
-abbrev pub flat_quotient : Quotient → EndakuroQuotient
-flat_quotient (Value q) = record { value = q; kind = 0 }
-flat_quotient ZeroDivisor = record { value = 0; kind = 1 }
-flat_quotient TooLarge = record { value = 0; kind = 2 }
+abbrev pub flat_quotient : Result ℕ QuotientError → EndakuroQuotient
+flat_quotient (Ok q) = record { value = q; kind = 0 }
+flat_quotient (Err ZeroDivisor) = record { value = 0; kind = 1 }
+flat_quotient (Err TooLarge) = record { value = 0; kind = 2 }

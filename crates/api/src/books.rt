@@ -1,12 +1,14 @@
 // 01, 'The book', and 02, 'Places by agreement', for C: the controller keeps one book in its own memory and changes it in place.
 ghost use Rattle.std.specs.Prelude.{◌≡◌};
-ghost use Rattle.book.specs.Answers.{told_change, told_take, told_commons};
 ghost use Rattle.book.specs.Calls.{request_of, after_request, withdrawal_of, after_withdrawal, take_of, after_take, setting_of, after_setting, commons_of};
 ghost use Rattle.book.specs.Figures.{empty_book};
 ghost use Rattle.book.specs.Sound.{is_sound};
 ghost use Rattle.api.specs.Flat.{flat_done, flat_taken, flat_commons};
+ghost use Rattle.refusals.specs.Answered.{told};
 
-use book::{Book, Change, Commons, Figures, Handout};
+use crate::outcome::give_back;
+use book::{Book, Figures, Handed, Shared};
+use refusals::Refusal;
 
 #[repr(C)]
 #[derive(Clone, Copy)]
@@ -35,115 +37,95 @@ pub struct EndakuroCommons {
     pub used: usize,
 }
 
-// The book left by a request, a withdrawal or a setting, and its answer.
+// The book left by a call, and the call's answer.
 #[derive(Clone, Copy)]
-struct Changed {
+struct Left<A> {
     book: Book,
-    answer: EndakuroDone,
+    answer: A,
 }
 
-// The book left by a take, and its answer.
-#[derive(Clone, Copy)]
-struct Served {
-    book: Book,
-    answer: EndakuroTaken,
-}
-
-fn flatten_change(answer: Change) -> EndakuroDone
-    ensures { result ≡ flat_done (told_change answer) }
+fn flatten_change(answer: Result<(), Refusal>) -> EndakuroDone
+    ensures { result ≡ flat_done (told answer) }
 {
-    match answer {
-        Change::Made => EndakuroDone { number: 0, at: 0 },
-        Change::Refused(refusal) => {
-            let given = refusals::give_back(refusal);
-            EndakuroDone {
-                number: given.number as u16,
-                at: given.at,
-            }
-        }
+    let given = give_back(answer);
+    EndakuroDone {
+        number: given.number as u16,
+        at: given.at,
     }
 }
 
-fn flatten_take(answer: Handout) -> EndakuroTaken
-    ensures { result ≡ flat_taken (told_take answer) }
+const NO_HANDOUT: Handed = Handed {
+    shipper: 0,
+    number: 0,
+};
+
+fn flatten_take(answer: Result<Handed, Refusal>) -> EndakuroTaken
+    ensures { result ≡ flat_taken (told answer) }
 {
-    match answer {
-        Handout::Handed(shipper, request) => EndakuroTaken {
-            number: 0,
-            at: 0,
-            request,
-            shipper,
-        },
-        Handout::Refused(refusal) => {
-            let given = refusals::give_back(refusal);
-            EndakuroTaken {
-                number: given.number as u16,
-                at: given.at,
-                request: 0,
-                shipper: 0,
-            }
-        }
+    let given = give_back(answer);
+    let handed = answer.unwrap_or(NO_HANDOUT);
+    EndakuroTaken {
+        number: given.number as u16,
+        at: given.at,
+        request: handed.number,
+        shipper: handed.shipper,
     }
 }
 
-fn flatten_commons(answer: Commons) -> EndakuroCommons
-    ensures { result ≡ flat_commons (told_commons answer) }
+const NO_COMMONS: Shared = Shared {
+    commons: 0,
+    used: 0,
+};
+
+fn flatten_commons(answer: Result<Shared, Refusal>) -> EndakuroCommons
+    ensures { result ≡ flat_commons (told answer) }
 {
-    match answer {
-        Commons::Shared(commons, used) => EndakuroCommons {
-            number: 0,
-            at: 0,
-            commons,
-            used,
-        },
-        Commons::Refused(refusal) => {
-            let given = refusals::give_back(refusal);
-            EndakuroCommons {
-                number: given.number as u16,
-                at: given.at,
-                commons: 0,
-                used: 0,
-            }
-        }
+    let given = give_back(answer);
+    let shared = answer.unwrap_or(NO_COMMONS);
+    EndakuroCommons {
+        number: given.number as u16,
+        at: given.at,
+        commons: shared.commons,
+        used: shared.used,
     }
 }
 
-fn flatten_changed(done: book::Changed) -> Changed
-    ensures { (result.answer ≡ flat_done (told_change done.answer)) × (result.book ≡ done.book) }
+fn flatten_changed(done: book::Changed) -> Left<EndakuroDone>
+    ensures { (result.answer ≡ flat_done (told done.answer)) × (result.book ≡ done.book) }
 {
     let left = done.book;
     let answer = done.answer;
-    Changed {
+    Left {
         book: left,
         answer: flatten_change(answer),
     }
 }
 
-fn enter(book: Book, shipper: u8, number: u32) -> Changed
+fn enter(book: Book, shipper: u8, number: u32) -> Left<EndakuroDone>
     ensures { (result.answer ≡ flat_done (request_of book shipper number)) × (result.book ≡ after_request book shipper number) }
 {
     flatten_changed(book::request(book, shipper, number))
 }
 
-fn remove(book: Book, shipper: u8, number: u32) -> Changed
+fn remove(book: Book, shipper: u8, number: u32) -> Left<EndakuroDone>
     ensures { (result.answer ≡ flat_done (withdrawal_of book shipper number)) × (result.book ≡ after_withdrawal book shipper number) }
 {
     flatten_changed(book::withdraw(book, shipper, number))
 }
 
-fn serve(book: Book) -> Served
+fn serve(book: Book) -> Left<EndakuroTaken>
     ensures { (result.answer ≡ flat_taken (take_of book)) × (result.book ≡ after_take book) }
 {
     let done = book::take(book);
     let left = done.book;
     let handout = done.answer;
-    Served {
+    Left {
         book: left,
         answer: flatten_take(handout),
     }
 }
 
-fn agree(book: Book, figures: Figures) -> Changed
+fn agree(book: Book, figures: Figures) -> Left<EndakuroDone>
     ensures { (result.answer ≡ flat_done (setting_of book figures)) × (result.book ≡ after_setting book figures) }
 {
     flatten_changed(book::set_figures(book, figures))

@@ -1,13 +1,16 @@
 // 01, 'Factors', for C: 'd is 4 for proving and tickets, 6 for water draw', so each factor has two entries and no
 // number of places is asked for that could be another.
 ghost use Rattle.std.specs.Prelude.{◌≡◌};
-ghost use Rattle.factors.specs.Answers.{told, cts_of, cps_of, cpl_of};
+ghost use Rattle.factors.specs.Answers.{cts_of, cps_of, cpl_of};
 ghost use Rattle.factors.specs.Metal.{metal_by};
 ghost use Rattle.factors.specs.Places.{digits};
 ghost use Rattle.api.specs.Given.{pipe_by, liquid_by};
 ghost use Rattle.api.specs.Flat.{flat_factor};
+ghost use Rattle.refusals.specs.Answered.{told};
 
-use factors::{Factor, Liquid, Pipe, Places};
+use crate::outcome::give_back;
+use factors::{Liquid, Pipe, Places};
+use refusals::Refusal;
 
 #[repr(C)]
 #[derive(Clone, Copy)]
@@ -18,23 +21,14 @@ pub struct EndakuroFactor {
     pub value: u32,
 }
 
-fn flatten(factor: Factor) -> EndakuroFactor
+fn flatten(factor: Result<u32, Refusal>) -> EndakuroFactor
     ensures { result ≡ flat_factor (told factor) }
 {
-    match factor {
-        Factor::Value(value) => EndakuroFactor {
-            number: 0,
-            at: 0,
-            value,
-        },
-        Factor::Refused(refusal) => {
-            let given = refusals::give_back(refusal);
-            EndakuroFactor {
-                number: given.number as u16,
-                at: given.at,
-                value: 0,
-            }
-        }
+    let given = give_back(factor);
+    EndakuroFactor {
+        number: given.number as u16,
+        at: given.at,
+        value: factor.unwrap_or(0),
     }
 }
 

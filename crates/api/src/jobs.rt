@@ -2,17 +2,19 @@
 ghost use Rattle.std.specs.Prelude.{◌≡◌, length};
 ghost use Rattle.refusals.specs.Told.{left_by};
 ghost use Rattle.report.specs.Record.{bytes_of_report};
-ghost use Rattle.run.specs.Answers.{told, shown_of};
+ghost use Rattle.run.specs.Answers.{shown_of};
 ghost use Rattle.run.specs.declared.Form.TheVariants.{Short, Long};
 ghost use Rattle.proving.specs.Job.{job_of, found_of};
 ghost use Rattle.api.specs.Given.{prover_by};
 ghost use Rattle.api.specs.Flat.{flat_report, flat_run, part_of};
+ghost use Rattle.refusals.specs.Answered.{told};
 
+use crate::outcome::give_back;
 use crate::reports::EndakuroReport;
 use crate::settings::EndakuroProver;
 use crate::{reports, settings};
-use report::Answer;
-use run::{Form, Worked};
+use refusals::Refusal;
+use run::{Corrected, Figures, Form};
 
 // A part of the lent records, in bytes; both are 0 where there is none.
 #[repr(C)]
@@ -98,11 +100,11 @@ fn accept(form: Form, prover: EndakuroProver, k: u32, limit: u16, records: &[u8]
     let mut unread = [0u8; 32];
     let job = proving::prove(1, settings, k, limit, form, records, &mut unread);
     match job {
-        Answer::Fields(report) => EndakuroPart {
+        Ok(report) => EndakuroPart {
             start: size * (report.first as usize - 1),
             length: 5 * size,
         },
-        Answer::Refused(_) => EndakuroPart {
+        Err(_) => EndakuroPart {
             start: 0,
             length: 0,
         },
@@ -128,45 +130,41 @@ pub fn endakuro_accept_long(
     accept(Form::Long, prover, k, limit, records)
 }
 
-fn flatten_run(worked: Worked) -> EndakuroRun
+const NO_VOLUME: Corrected = Corrected {
+    cpl: 0,
+    factor: 0,
+    volume: 0,
+};
+
+const NO_FIGURES: Figures = Figures {
+    indicated: 0,
+    cts: 0,
+    cps: 0,
+    prover: NO_VOLUME,
+    meter: NO_VOLUME,
+    factor: 0,
+};
+
+fn flatten_run(worked: Result<Figures, Refusal>) -> EndakuroRun
     ensures { result ≡ flat_run (told worked) }
 {
-    match worked {
-        Worked::Figures(figures) => {
-            let prover = figures.prover;
-            let meter = figures.meter;
-            EndakuroRun {
-                number: 0,
-                at: 0,
-                indicated: figures.indicated,
-                cts: figures.cts,
-                cps: figures.cps,
-                provercpl: prover.cpl,
-                proverfactor: prover.factor,
-                metercpl: meter.cpl,
-                meterproduct: meter.factor,
-                provervolume: prover.volume,
-                metervolume: meter.volume,
-                factor: figures.factor,
-            }
-        }
-        Worked::Refused(refusal) => {
-            let given = refusals::give_back(refusal);
-            EndakuroRun {
-                number: given.number as u16,
-                at: given.at,
-                indicated: 0,
-                cts: 0,
-                cps: 0,
-                provercpl: 0,
-                proverfactor: 0,
-                metercpl: 0,
-                meterproduct: 0,
-                provervolume: 0,
-                metervolume: 0,
-                factor: 0,
-            }
-        }
+    let given = give_back(worked);
+    let figures = worked.unwrap_or(NO_FIGURES);
+    let prover = figures.prover;
+    let meter = figures.meter;
+    EndakuroRun {
+        number: given.number as u16,
+        at: given.at,
+        indicated: figures.indicated,
+        cts: figures.cts,
+        cps: figures.cps,
+        provercpl: prover.cpl,
+        proverfactor: prover.factor,
+        metercpl: meter.cpl,
+        meterproduct: meter.factor,
+        provervolume: prover.volume,
+        metervolume: meter.volume,
+        factor: figures.factor,
     }
 }
 

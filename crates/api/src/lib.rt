@@ -9,6 +9,7 @@ pub mod corrections;
 pub mod jobs;
 pub mod lookups;
 pub mod moves;
+mod outcome;
 pub mod panel;
 pub mod quotients;
 pub mod readings;

@@ -1,9 +1,12 @@
 // 02, 'Look up compressibility', for C.
 ghost use Rattle.std.specs.Prelude.{◌≡◌};
-ghost use Rattle.lookup.specs.Answers.{told, look_up_of};
+ghost use Rattle.lookup.specs.Answers.{look_up_of};
 ghost use Rattle.api.specs.Flat.{flat_entry};
+ghost use Rattle.refusals.specs.Answered.{told};
 
-use lookup::LookUp;
+use crate::outcome::give_back;
+use lookup::Entry;
+use refusals::Refusal;
 
 // The record found: temperature in 0.1 °F, gravity in 0.1 °API, F in 10^-8 per psi.
 #[repr(C)]
@@ -16,27 +19,23 @@ pub struct EndakuroEntry {
     pub compressibility: u16,
 }
 
-fn flatten(found: LookUp) -> EndakuroEntry
+const NO_ENTRY: Entry = Entry {
+    temperature: 0,
+    gravity: 0,
+    compressibility: 0,
+};
+
+fn flatten(found: Result<Entry, Refusal>) -> EndakuroEntry
     ensures { result ≡ flat_entry (told found) }
 {
-    match found {
-        LookUp::Found(entry) => EndakuroEntry {
-            number: 0,
-            at: 0,
-            temperature: entry.temperature,
-            gravity: entry.gravity,
-            compressibility: entry.compressibility,
-        },
-        LookUp::Refused(refusal) => {
-            let given = refusals::give_back(refusal);
-            EndakuroEntry {
-                number: given.number as u16,
-                at: given.at,
-                temperature: 0,
-                gravity: 0,
-                compressibility: 0,
-            }
-        }
+    let given = give_back(found);
+    let entry = found.unwrap_or(NO_ENTRY);
+    EndakuroEntry {
+        number: given.number as u16,
+        at: given.at,
+        temperature: entry.temperature,
+        gravity: entry.gravity,
+        compressibility: entry.compressibility,
     }
 }
 

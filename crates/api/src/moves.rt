@@ -2,12 +2,13 @@
 ghost use Rattle.std.specs.Prelude.{◌≡◌, length};
 ghost use Rattle.refusals.specs.Told.{left_by};
 ghost use Rattle.run.specs.declared.Form.TheVariants.{Short, Long};
-ghost use Rattle.moving.specs.Answers.{told};
 ghost use Rattle.moving.specs.Judging.{move_of};
 ghost use Rattle.moving.specs.Moved.{moved_bytes};
 ghost use Rattle.api.specs.Flat.{flat_moved};
+ghost use Rattle.refusals.specs.Answered.{told};
 
-use moving::Moved;
+use crate::outcome::give_back;
+use refusals::Refusal;
 
 // How many records were moved.
 #[repr(C)]
@@ -18,23 +19,14 @@ pub struct EndakuroMoved {
     pub count: u16,
 }
 
-fn flatten(moved: Moved) -> EndakuroMoved
+fn flatten(moved: Result<u16, Refusal>) -> EndakuroMoved
     ensures { result ≡ flat_moved (told moved) }
 {
-    match moved {
-        Moved::Records(count) => EndakuroMoved {
-            number: 0,
-            at: 0,
-            count,
-        },
-        Moved::Refused(refusal) => {
-            let given = refusals::give_back(refusal);
-            EndakuroMoved {
-                number: given.number as u16,
-                at: given.at,
-                count: 0,
-            }
-        }
+    let given = give_back(moved);
+    EndakuroMoved {
+        number: given.number as u16,
+        at: given.at,
+        count: moved.unwrap_or(0),
     }
 }
 

@@ -1,9 +1,11 @@
 // 02, 'Numbers for the panel', for C.
 ghost use Rattle.std.specs.Prelude.{◌≡◌};
-ghost use Rattle.live.specs.Panel.{told, panel_temperature_of, panel_pressure_of};
+ghost use Rattle.live.specs.Panel.{panel_temperature_of, panel_pressure_of};
 ghost use Rattle.api.specs.Flat.{flat_panel};
+ghost use Rattle.refusals.specs.Answered.{told};
 
-use live::panel::Panel;
+use crate::outcome::give_back;
+use refusals::Refusal;
 
 // °F, or psi gage.
 #[repr(C)]
@@ -14,23 +16,14 @@ pub struct EndakuroPanel {
     pub shown: f32,
 }
 
-fn flatten(panel: Panel) -> EndakuroPanel
+fn flatten(panel: Result<f32, Refusal>) -> EndakuroPanel
     ensures { result ≡ flat_panel (told panel) }
 {
-    match panel {
-        Panel::Shows(shown) => EndakuroPanel {
-            number: 0,
-            at: 0,
-            shown,
-        },
-        Panel::Refused(refusal) => {
-            let given = refusals::give_back(refusal);
-            EndakuroPanel {
-                number: given.number as u16,
-                at: given.at,
-                shown: 0.0,
-            }
-        }
+    let given = give_back(panel);
+    EndakuroPanel {
+        number: given.number as u16,
+        at: given.at,
+        shown: panel.unwrap_or(0.0),
     }
 }
 

@@ -3,7 +3,7 @@ ghost use Rattle.std.specs.Prelude.{◌≡◌, ◌*◌};
 ghost use Rattle.exact.specs.Quotient.{quotient_of};
 ghost use Rattle.api.specs.Flat.{flat_quotient};
 
-use exact::Quotient;
+use exact::QuotientError;
 
 #[repr(C)]
 #[derive(Clone, Copy)]
@@ -19,8 +19,8 @@ pub fn endakuro_rounded_ratio(a: u64, b: u64, d: u64) -> EndakuroQuotient
 {
     let quotient = exact::rounded_ratio(a, b, d);
     match quotient {
-        Quotient::Value(value) => EndakuroQuotient { value, kind: 0 },
-        Quotient::ZeroDivisor => EndakuroQuotient { value: 0, kind: 1 },
-        Quotient::TooLarge => EndakuroQuotient { value: 0, kind: 2 },
+        Ok(value) => EndakuroQuotient { value, kind: 0 },
+        Err(QuotientError::ZeroDivisor) => EndakuroQuotient { value: 0, kind: 1 },
+        Err(QuotientError::TooLarge) => EndakuroQuotient { value: 0, kind: 2 },
     }
 }

@@ -1,12 +1,15 @@
 // 01, 'Live readings', and 02, 'Smart transmitters', for C.
 ghost use Rattle.std.specs.Prelude.{◌≡◌};
-ghost use Rattle.live.specs.Live.{told, live_of};
+ghost use Rattle.live.specs.Live.{live_of};
 ghost use Rattle.live.specs.Channels.{channels_of};
 ghost use Rattle.api.specs.Given.{channel_by, temperature_by, pressure_by};
 ghost use Rattle.api.specs.Flat.{flat_live};
+ghost use Rattle.refusals.specs.Answered.{told};
 
+use crate::outcome::give_back;
 use live::channels::{Channel, from_bits};
-use live::{Live, Reading};
+use live::{Reading, Values};
+use refusals::Refusal;
 
 // Tenths of °F and whole psi gage.
 #[repr(C)]
@@ -18,25 +21,18 @@ pub struct EndakuroLive {
     pub psi: u16,
 }
 
-fn flatten(live: Live) -> EndakuroLive
+const NO_READING: Values = Values { tenths: 0, psi: 0 };
+
+fn flatten(live: Result<Values, Refusal>) -> EndakuroLive
     ensures { result ≡ flat_live (told live) }
 {
-    match live {
-        Live::Whole { tenths, psi } => EndakuroLive {
-            number: 0,
-            at: 0,
-            tenths,
-            psi,
-        },
-        Live::Refused(refusal) => {
-            let given = refusals::give_back(refusal);
-            EndakuroLive {
-                number: given.number as u16,
-                at: given.at,
-                tenths: 0,
-                psi: 0,
-            }
-        }
+    let given = give_back(live);
+    let values = live.unwrap_or(NO_READING);
+    EndakuroLive {
+        number: given.number as u16,
+        at: given.at,
+        tenths: values.tenths,
+        psi: values.psi,
     }
 }
 

@@ -2,11 +2,14 @@
 ghost use Rattle.std.specs.Prelude.{◌≡◌, length};
 ghost use Rattle.refusals.specs.Told.{left_by};
 ghost use Rattle.report.specs.Record.{bytes_of_report};
-ghost use Rattle.report.specs.Judged.{told, write_of, read_of};
+ghost use Rattle.report.specs.Judged.{write_of, read_of};
 ghost use Rattle.api.specs.Given.{factors_by};
 ghost use Rattle.api.specs.Flat.{flat_report};
+ghost use Rattle.refusals.specs.Answered.{told};
 
-use report::{Answer, Factors};
+use crate::outcome::give_back;
+use refusals::Refusal;
+use report::{Factors, Report};
 
 // Five consecutive run factors, in 0.0001.
 #[repr(C)]
@@ -40,42 +43,38 @@ pub struct EndakuroReport {
     pub f5: u16,
 }
 
-pub(crate) fn flatten(answer: Answer) -> EndakuroReport
+const NO_REPORT: Report = Report {
+    number: 0,
+    factor: 0,
+    first: 0,
+    runs: 0,
+    factors: Factors {
+        one: 0,
+        two: 0,
+        three: 0,
+        four: 0,
+        five: 0,
+    },
+};
+
+pub(crate) fn flatten(answer: Result<Report, Refusal>) -> EndakuroReport
     ensures { result ≡ flat_report (told answer) }
 {
-    match answer {
-        Answer::Fields(report) => {
-            let used = report.factors;
-            EndakuroReport {
-                number: 0,
-                at: 0,
-                request: report.number,
-                factor: report.factor,
-                first: report.first,
-                runs: report.runs,
-                f1: used.one,
-                f2: used.two,
-                f3: used.three,
-                f4: used.four,
-                f5: used.five,
-            }
-        }
-        Answer::Refused(refusal) => {
-            let given = refusals::give_back(refusal);
-            EndakuroReport {
-                number: given.number as u16,
-                at: given.at,
-                request: 0,
-                factor: 0,
-                first: 0,
-                runs: 0,
-                f1: 0,
-                f2: 0,
-                f3: 0,
-                f4: 0,
-                f5: 0,
-            }
-        }
+    let given = give_back(answer);
+    let report = answer.unwrap_or(NO_REPORT);
+    let used = report.factors;
+    EndakuroReport {
+        number: given.number as u16,
+        at: given.at,
+        request: report.number,
+        factor: report.factor,
+        first: report.first,
+        runs: report.runs,
+        f1: used.one,
+        f2: used.two,
+        f3: used.three,
+        f4: used.four,
+        f5: used.five,
     }
 }
 

@@ -1,11 +1,14 @@
 // 01, 'Ticket', for C.
 ghost use Rattle.std.specs.Prelude.{◌≡◌};
-ghost use Rattle.ticket.specs.Answers.{told, ticket_of};
+ghost use Rattle.ticket.specs.Answers.{ticket_of};
 ghost use Rattle.api.specs.Given.{ticket_by};
 ghost use Rattle.api.specs.Flat.{flat_volumes};
+ghost use Rattle.refusals.specs.Answered.{told};
 
+use crate::outcome::give_back;
 use factors::Liquid;
-use ticket::{Measured, Ticket};
+use refusals::Refusal;
+use ticket::{Ticket, Volumes};
 
 // Readings in 0.01 barrel, the meter factor and CTL in 0.0001, P and Pe in psi gage, F in 10^-8 per psi, S in
 // 0.001 %.
@@ -33,27 +36,23 @@ pub struct EndakuroVolumes {
     pub net: u32,
 }
 
-fn flatten(measured: Measured) -> EndakuroVolumes
+const NO_VOLUMES: Volumes = Volumes {
+    factor: 0,
+    gross: 0,
+    net: 0,
+};
+
+fn flatten(measured: Result<Volumes, Refusal>) -> EndakuroVolumes
     ensures { result ≡ flat_volumes (told measured) }
 {
-    match measured {
-        Measured::Worked(volumes) => EndakuroVolumes {
-            number: 0,
-            at: 0,
-            factor: volumes.factor,
-            gross: volumes.gross,
-            net: volumes.net,
-        },
-        Measured::Refused(refusal) => {
-            let given = refusals::give_back(refusal);
-            EndakuroVolumes {
-                number: given.number as u16,
-                at: given.at,
-                factor: 0,
-                gross: 0,
-                net: 0,
-            }
-        }
+    let given = give_back(measured);
+    let volumes = measured.unwrap_or(NO_VOLUMES);
+    EndakuroVolumes {
+        number: given.number as u16,
+        at: given.at,
+        factor: volumes.factor,
+        gross: volumes.gross,
+        net: volumes.net,
     }
 }
 

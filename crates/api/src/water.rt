@@ -1,15 +1,19 @@
 // 01, 'Water draw', and 02, 'Bidirectional provers', for C. Volumes are in 0.01 cubic inch, factors have
 // 6 places.
 ghost use Rattle.std.specs.Prelude.{◌≡◌};
-ghost use Rattle.draw.specs.Answers.{told_fill, told_count, told_draw, fill_of, count_of, held_for, draw_of};
+ghost use Rattle.draw.specs.Answers.{fill_of, count_of, held_for, draw_of};
+ghost use Rattle.draw.specs.Volumes.{counted, held};
 ghost use Rattle.draw.specs.declared.Profile.TheVariants.{Unidirectional, Bidirectional};
 ghost use Rattle.factors.specs.Metal.{metal_by};
 ghost use Rattle.api.specs.Given.{prover_by};
 ghost use Rattle.api.specs.Flat.{flat_fill, flat_passes, flat_draw};
+ghost use Rattle.refusals.specs.Answered.{told};
 
+use crate::outcome::give_back;
 use crate::settings;
 use crate::settings::EndakuroProver;
-use draw::{Counted, FillAnswer, Profile, WaterDraw};
+use draw::{BaseVolume, DrawVolumes, FillFigures, Profile};
+use refusals::Refusal;
 
 // The adjusted measure, CTS of the measure and of the prover, CCTS, and the volume drawn.
 #[repr(C)]
@@ -45,31 +49,27 @@ pub struct EndakuroDraw {
     pub first: u8,
 }
 
-fn flatten_fill(answer: FillAnswer) -> EndakuroFill
-    ensures { result ≡ flat_fill (told_fill answer) }
+const NO_FILL: FillFigures = FillFigures {
+    adjusted: 0,
+    measure: 0,
+    prover: 0,
+    ccts: 0,
+    drawn: 0,
+};
+
+fn flatten_fill(answer: Result<FillFigures, Refusal>) -> EndakuroFill
+    ensures { result ≡ flat_fill (told answer) }
 {
-    match answer {
-        FillAnswer::Figures(figures) => EndakuroFill {
-            number: 0,
-            at: 0,
-            adjusted: figures.adjusted,
-            measure: figures.measure,
-            prover: figures.prover,
-            ccts: figures.ccts,
-            drawn: figures.drawn,
-        },
-        FillAnswer::Refused(refusal) => {
-            let given = refusals::give_back(refusal);
-            EndakuroFill {
-                number: given.number as u16,
-                at: given.at,
-                adjusted: 0,
-                measure: 0,
-                prover: 0,
-                ccts: 0,
-                drawn: 0,
-            }
-        }
+    let given = give_back(answer);
+    let figures = answer.unwrap_or(NO_FILL);
+    EndakuroFill {
+        number: given.number as u16,
+        at: given.at,
+        adjusted: figures.adjusted,
+        measure: figures.measure,
+        prover: figures.prover,
+        ccts: figures.ccts,
+        drawn: figures.drawn,
     }
 }
 
@@ -81,35 +81,29 @@ pub fn endakuro_fill(metal: u8, coefficient: u16, bytes: &[u8]) -> EndakuroFill
     flatten_fill(draw::fill(chosen, bytes))
 }
 
-fn flatten_passes(answer: Counted, volumes: [u64; 20]) -> EndakuroPasses
-    ensures { result ≡ flat_passes (told_count answer) volumes }
+const NO_VOLUMES: DrawVolumes = DrawVolumes {
+    count: 0,
+    volumes: [0; 20],
+};
+
+fn flatten_passes(answer: Result<DrawVolumes, Refusal>) -> EndakuroPasses
+    ensures { result ≡ flat_passes (counted (told answer)) (held (told answer)) }
 {
-    match answer {
-        Counted::Volumes(count) => EndakuroPasses {
-            number: 0,
-            at: 0,
-            count,
-            volumes,
-        },
-        Counted::Refused(refusal) => {
-            let given = refusals::give_back(refusal);
-            EndakuroPasses {
-                number: given.number as u16,
-                at: given.at,
-                count: 0,
-                volumes,
-            }
-        }
+    let given = give_back(answer);
+    let found = answer.unwrap_or(NO_VOLUMES);
+    let volumes = found.volumes;
+    EndakuroPasses {
+        number: given.number as u16,
+        at: given.at,
+        count: found.count,
+        volumes,
     }
 }
 
 fn list_volumes(profile: Profile, prover: EndakuroProver, records: &[u8]) -> EndakuroPasses
     ensures { result ≡ flat_passes (count_of profile (prover_by prover) records.now) (held_for profile (prover_by prover) records.now) }
 {
-    let found = draw::volumes(profile, settings::take_up(prover), records);
-    let answer = found.answer;
-    let volumes = found.volumes;
-    flatten_passes(answer, volumes)
+    flatten_passes(draw::volumes(profile, settings::take_up(prover), records))
 }
 
 // The volumes of all passes. The prover's base volume is not judged here and in the draws.
@@ -126,27 +120,23 @@ pub fn endakuro_trips(prover: EndakuroProver, records: &[u8]) -> EndakuroPasses
     list_volumes(Profile::Bidirectional, prover, records)
 }
 
-fn flatten_draw(answer: WaterDraw) -> EndakuroDraw
-    ensures { result ≡ flat_draw (told_draw answer) }
+const NO_BASE: BaseVolume = BaseVolume {
+    base: 0,
+    barrels: 0,
+    first: 0,
+};
+
+fn flatten_draw(answer: Result<BaseVolume, Refusal>) -> EndakuroDraw
+    ensures { result ≡ flat_draw (told answer) }
 {
-    match answer {
-        WaterDraw::Drawn(volume) => EndakuroDraw {
-            number: 0,
-            at: 0,
-            base: volume.base,
-            barrels: volume.barrels,
-            first: volume.first,
-        },
-        WaterDraw::Refused(refusal) => {
-            let given = refusals::give_back(refusal);
-            EndakuroDraw {
-                number: given.number as u16,
-                at: given.at,
-                base: 0,
-                barrels: 0,
-                first: 0,
-            }
-        }
+    let given = give_back(answer);
+    let volume = answer.unwrap_or(NO_BASE);
+    EndakuroDraw {
+        number: given.number as u16,
+        at: given.at,
+        base: volume.base,
+        barrels: volume.barrels,
+        first: volume.first,
     }
 }
 

@@ -1,12 +1,11 @@
 -- What soundness tells of a book: its shape, its figures, each shipper's line, the commons, the last served; and that this is all of it.
-use mathlib.Core.Path.{◌≡◌, sym, ap, ◌∙◌}
-use mathlib.Core.Bool.{true}
-use Prim.Native.Nat.{ℕ, zero, suc, ◌-◌, ◌≤◌, ◌<◌}
+use mathlib.Core.Path.{◌≡◌}
+use mathlib.Core.Bool.{Bool, true, ◌&&◌}
+use Prim.Native.Nat.{ℕ, zero, suc, ◌≤◌, ◌<◌}
 use native.Mathlib.Omega.{arith}
 use borrow.Author.Tests.{leb-true, le-leb, ltb-true, lt-ltb, eqb-true, eq-eqb}
-use lib.Dec.{leb, eqb}
-use lib.ListN.{length, get_or}
-use lib.Seq.{get_or-take}
+use lib.Dec.{leb, ltb, eqb}
+use lib.ListN.{length}
 use Rattle.octets.specs.Octets.{zero_between}
 use Rattle.octets.proofs.FirstToLast.{tests, empty, nowhere}
 use Rattle.book.specs.Line.{waiting, are_proper}
@@ -42,6 +41,17 @@ line-is top line narrow sound =
 line_sound : (top : ℕ) (line : Line) → SoundLine top line → is_line_sound top line ≡ true
 unfolding is_line_sound
 line_sound top line is = both_true (eq-eqb _ _ is.wide) (both_true (le-leb _ _ is.few) (both_true is.proper is.unused))
+
+-- a line by its tests, and a book by its own
+pub line_judged : (top : ℕ) (line : Line) (few proper unused : Bool) → length line.numbers ≡ 16 → leb line.count top ≡ few → are_proper (waiting line) ≡ proper
+    → zero_between line.numbers line.count 16 ≡ unused → is_line_sound top line ≡ (few && (proper && unused))
+unfolding is_line_sound
+line_judged top line few proper unused wide first second third = λ i. eq-eqb _ _ wide i && (first i && (second i && third i))
+
+pub book_judged : (book : Book) (ruled lined used turn : Bool) → length book.lines ≡ 4 → keep_rules book.figures ≡ ruled → are_lines_sound book ≡ lined
+    → leb (commons_used book) (commons book) ≡ used → ltb book.last 4 ≡ turn → is_sound book ≡ (ruled && (lined && (used && turn)))
+unfolding is_sound shippers
+book_judged book ruled lined used turn four first second third fourth = λ i. eq-eqb _ _ four i && (first i && (second i && (third i && fourth i)))
 
 -- the line of each shipper
 abbrev pub SoundLines : Book → Type 0
@@ -90,15 +100,6 @@ module _ (book : Book) (s : ℕ) (line : SoundLine (ceiling book s) (line_at boo
   pub has_count : has book s ≡ (line_at book s).count
   unfolding has waiting_of
   has_count = let few = few_at in waiting_count (line_at book s) (omega arith) line.wide
-
-  pub beyond_count : {r : ℕ} → r ≡ (line_at book s).count - reserve book s → r ≡ beyond book s
-  unfolding beyond
-  beyond_count is = is ∙ ap (λ (n : ℕ). n - reserve book s) (sym has_count)
-
--- the oldest stands first in the line
-pub oldest_first : (book : Book) (s : ℕ) → 0 < (line_at book s).count → get_or (waiting_of book s) 0 0 ≡ get_or (line_at book s).numbers 0 0
-unfolding waiting_of waiting
-oldest_first book s some = get_or-take (line_at book s).count (line_at book s).numbers 0 0 some
 
 -- 'places 16': a sound book never holds more
 pub holds_its_places : (book : Book) → SoundBook book → held book ≤ places book

@@ -2,11 +2,11 @@
 -- `take` cite. Nearly all of it holds of any sound book, and calls in any order leave a sound book sound (`always_sound`); what
 -- was counted from the first call on holds from any sound, empty book. The figures are the book's own: `reserve`, `ceiling` and
 -- `commons`; the customer's, 2, 8 and 8, are those of a new book (`default-figures`).
+use Rattle.std.specs.Prelude.{Option, None, Some}
 use mathlib.Core.Path.{◌≡◌, refl, sym, ap, ◌∙◌, subst}
 use mathlib.Core.Logic.{⊎_elim}
 use mathlib.Core.Bool.{Bool, true, false, ◌||◌, not, cond}
 use mathlib.Core.List.{List, [], ◌∷◌, ◌++◌}
-use mathlib.Core.Option.{Option, none, some}
 use Prim.Native.Nat.{ℕ, suc, ◌+◌, ◌*◌, ◌-◌, ◌≤◌, ◌<◌, ◌%◌}
 use native.Mathlib.Nat.{lt_of_not-le}
 use native.Mathlib.Omega.{arith}
@@ -202,7 +202,7 @@ pub all_accounted_for : (start : Book) → SoundEmpty start → (calls : List Ca
     ≡ how_often (is_taken shipper number) (answers_to calls start) + how_often (is_withdrawn shipper number) (answers_to calls start) + times number (waiting_of (after_all calls start) shipper)
 unfolding times
 all_accounted_for start from calls s x =
-    let none = ap (times x) (nothing_waits start (sound_is start from.sound) from.empty s) in
+    let None = ap (times x) (nothing_waits start (sound_is start from.sound) from.empty s) in
     let sum = balance s x calls start (sound_is start from.sound) in
     omega arith
 
@@ -225,12 +225,12 @@ module _ (book other : Book) (lines : (s : ℕ) → s < 4 → waiting_of book s 
 
   same_turn : next_turn book ≡ next_turn other
   unfolding next_turn has_any has shippers place_if
-  same_turn = searched-same searched (place_if (has_any book)) (place_if (has_any other)) 4 1 (λ t l h. λ i. cond (ltb 0 (length (same_line t i))) (some t) none)
+  same_turn = searched-same searched (place_if (has_any book)) (place_if (has_any other)) 4 1 (λ t l h. λ i. cond (ltb 0 (length (same_line t i))) (Some t) None)
 
   same_handed : (next : Option ℕ) → handed_out book next ≡ handed_out other next
   unfolding handed_out oldest_of
-  same_handed none = refl
-  same_handed (some turn) = λ i. done (record { shipper = same_shipper turn i; number = get_or (same_line turn i) 0 0 })
+  same_handed None = refl
+  same_handed (Some turn) = λ i. done (record { shipper = same_shipper turn i; number = get_or (same_line turn i) 0 0 })
 
 -- 01: 'In a sound book a request's answer depends on the number asked, its shipper's line and, from' its reserve 'upward, commons
 -- used; on nothing else', but for 'these figures too', its shipper's own two and the book's commons: in any two sound books, and for any

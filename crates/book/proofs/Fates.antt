@@ -1,10 +1,10 @@
 -- What becomes of a waiting request: each call leaves it where it is or nearer, and each take brings its turn nearer.
 -- What is left to wait is four turns for each request before it and the turns until its shipper's.
+use Rattle.std.specs.Prelude.{Option, None, Some}
 use mathlib.Core.Path.{◌≡◌, refl, sym, ap, ◌∙◌, subst}
 use mathlib.Core.Bool.{Bool, true, false, ◌&&◌, cond, true≢false}
 use mathlib.Core.List.{List, [], ◌∷◌, ◌++◌}
 use mathlib.Core.Logic.{by_cases}
-use mathlib.Core.Option.{Option, none, some}
 use Prim.Native.Nat.{ℕ, zero, suc, ◌+◌, ◌*◌, ◌-◌, ◌≤◌, ◌<◌, ◌%◌}
 use native.Mathlib.Decide.{dec_lt}
 use native.Mathlib.Nat.{mod-add-mod, pos_of_ne-zero}
@@ -87,10 +87,10 @@ module _ (s x : ℕ) (book : Book) (sound : SoundBook book) (k t : ℕ) (w : Wai
   unfolding has_any has
   any =
       let stands = w.stands in
-      let some : 0 < length (waiting_of book s) = omega arith in
-      ap (λ (r : ℕ). ltb 0 (length (waiting_of book r))) w.mine ∙ lt-ltb _ _ some
+      let Some : 0 < length (waiting_of book s) = omega arith in
+      ap (λ (r : ℕ). ltb 0 (length (waiting_of book r))) w.mine ∙ lt-ltb _ _ Some
 
-  module _ (not : grants s x (answer_to take book) ≡ false) (j : ℕ) (is : next_turn book ≡ some j) where
+  module _ (not : grants s x (answer_to take book) ≡ false) (j : ℕ) (is : next_turn book ≡ Some j) where
     -- the shipper served, and its oldest
     u : ℕ
     u = of_turn book j
@@ -156,7 +156,7 @@ module _ (s x : ℕ) (book : Book) (sound : SoundBook book) (k t : ℕ) (w : Wai
       nearer_line =
           let st = w.stands in
           let p = st.place in
-          let some = behind in
+          let Some = behind in
           let at : 1 + (p - 1) ≡ p = omega arith in
           record { place = p - 1; near = omega arith; within = simp length-drop (omega arith); there = get_or-drop 1 (waiting_of book s) (p - 1) 0 ∙ ap (λ (n : ℕ). get_or (waiting_of book s) n 0) at ∙ st.there }
 
@@ -164,7 +164,7 @@ module _ (s x : ℕ) (book : Book) (sound : SoundBook book) (k t : ℕ) (w : Wai
       unfolding of_turn shippers
       now =
           let st = w.stands in
-          let some = behind in
+          let Some = behind in
           let low = known in
           let back : (s + 4) % 4 ≡ s = omega arith in
           record {
@@ -185,10 +185,10 @@ module _ (s x : ℕ) (book : Book) (sound : SoundBook book) (k t : ℕ) (w : Wai
   nearer not = by (next_turn book) refl
     where
       by : (next : Option ℕ) → next_turn book ≡ next → Nearer
-      by none is = absurd (true≢false (sym any ∙ place_none (has_any book) 4 1 is t w.one (let four = w.four in omega arith)))
-      by (some j) is =
+      by None is = absurd (true≢false (sym any ∙ place_none (has_any book) 4 1 is t w.one (let four = w.four in omega arith)))
+      by (Some j) is =
           by_cases (dec_lt j t) (later not j is)
-          (λ round. now not j is (let first = turn_first book is in let none : t < j → ⊥ = λ past. true≢false (sym any ∙ first.before t w.one past) in by_cases (dec_lt t j) (λ past. absurd (none past)) (λ same. omega arith)))
+          (λ round. now not j is (let first = turn_first book is in let None : t < j → ⊥ = λ past. true≢false (sym any ∙ first.before t w.one past) in by_cases (dec_lt t j) (λ past. absurd (None past)) (λ same. omega arith)))
 
 -- what a fate means, of the steps made and the book left: a take in time, a withdrawal, or too few takes and waiting still
 module _ (s x : ℕ) where

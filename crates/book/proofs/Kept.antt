@@ -1,13 +1,13 @@
 -- What each call does, by its answer, and that every call keeps a book sound.
+use Rattle.std.specs.Prelude.{Option, None, Some}
 use mathlib.Core.Path.{◌≡◌, refl, sym, ap, ◌∙◌, subst}
 use mathlib.Core.Logic.{⊎_elim}
 use mathlib.Core.Bool.{Bool, true, false, ◌||◌}
 use mathlib.Core.List.{List, [], ◌∷◌, ◌++◌}
-use mathlib.Core.Option.{Option, none, some}
 use Prim.Native.Nat.{ℕ, ◌+◌, ◌≤◌, ◌<◌}
 use native.Mathlib.Decide.{ℕ_discrete}
 use native.Mathlib.Omega.{arith}
-use borrow.Author.Tests.{ltb-true, lt-ltb, le-ltb}
+use borrow.Author.Tests.{ltb-true}
 use lib.Dec.{ltb}
 use lib.ListN.{length, get_or, length-append}
 use Rattle.refusals.specs.Told.{done, refused, Fault, fine, fault, demand, unless, judged, left_by}
@@ -19,7 +19,7 @@ use Rattle.book.specs.Line.{without, are_proper}
 use Rattle.book.specs.Figures.{shippers, reserve, ceiling, commons, line_at, waiting_of, has, held, commons_used, put}
 use Rattle.book.specs.Rules.{keep_rules}
 use Rattle.book.specs.Sound.{is_sound}
-use Rattle.book.specs.Answers.{Handed}
+use Rattle.book.specs.declared.Handed.{Handed}
 use Rattle.book.specs.Calls.{request_fault, request_of, entered, after_request, withdrawal_fault, withdrawal_of, removed, after_withdrawal, has_room, of_turn, has_any, next_turn, oldest_of, handed_out, take_of, after_take, setting_fault, setting_of, agreed, after_setting}
 use Rattle.book.specs.Demand3.{Call, request, withdrawal, take, setting, Answer, answer_to, after, after_all}
 use Rattle.book.specs.declared.Book.{Book}
@@ -112,32 +112,26 @@ pub turn_known : (book : Book) (turn : ℕ) → of_turn book turn < 4
 unfolding of_turn shippers
 turn_known book turn = omega arith
 
-pub turn_first : (book : Book) {turn : ℕ} → next_turn book ≡ some turn → First (has_any book) 4 1 turn
+pub turn_first : (book : Book) {turn : ℕ} → next_turn book ≡ Some turn → First (has_any book) 4 1 turn
 unfolding next_turn shippers
 turn_first book is = place_first (has_any book) 4 1 is
 
-pub turn_any : (book : Book) (turn : ℕ) → next_turn book ≡ some turn → 0 < length (waiting_of book (of_turn book turn))
+pub turn_any : (book : Book) (turn : ℕ) → next_turn book ≡ Some turn → 0 < length (waiting_of book (of_turn book turn))
 unfolding has_any has
 turn_any book turn is = ltb-true _ _ (turn_first book is).passes
 
--- which turn is next, by the counts of the lines: nobody before it has any
+-- which turn is next: nobody before it has any
 abbrev pub NoneBefore : Book → ℕ → Type 0
-NoneBefore book turn = (j : ℕ) → 1 ≤ j → j < turn → (line_at book (of_turn book j)).count ≤ 0
+NoneBefore book turn = (j : ℕ) → 1 ≤ j → j < turn → has_any book j ≡ false
 
-module _ (book : Book) (sound : SoundBook book) where
-  any_count : (turn : ℕ) → has_any book turn ≡ ltb 0 (line_at book (of_turn book turn)).count
-  unfolding has_any
-  any_count turn = ap (ltb 0) (has_count book (of_turn book turn) (sound.lines (of_turn book turn) (turn_known book turn)))
-
-  pub turn_is : (turn : ℕ) → 1 ≤ turn → turn ≤ 4 → 0 < (line_at book (of_turn book turn)).count → NoneBefore book turn → next_turn book ≡ some turn
+module _ (book : Book) where
+  pub turn_is : (turn : ℕ) → 1 ≤ turn → turn ≤ 4 → has_any book turn ≡ true → NoneBefore book turn → next_turn book ≡ Some turn
   unfolding next_turn shippers
-  turn_is turn l h any nobody =
-      first-place (has_any book) 4 1
-      (record { from = l; below = omega arith; passes = any_count turn ∙ lt-ltb _ _ any; before = λ j l h. any_count j ∙ le-ltb _ _ (nobody j l h) })
+  turn_is turn l h any nobody = first-place (has_any book) 4 1 (record { from = l; below = omega arith; passes = any; before = nobody })
 
-  pub turn_none : NoneBefore book 5 → next_turn book ≡ none
+  pub turn_none : NoneBefore book 5 → next_turn book ≡ None
   unfolding next_turn shippers
-  turn_none nobody = nowhere searched (place_if (has_any book)) 4 1 (λ j l h. place_no (has_any book) j (any_count j ∙ le-ltb _ _ (nobody j l (omega arith))))
+  turn_none nobody = nowhere searched (place_if (has_any book)) 4 1 (λ j l h. place_no (has_any book) j (nobody j l (omega arith)))
 
 pub take_did : (book : Book) → Out book (answer_to take book) (after_take book)
 unfolding answer_to after_take take_of handed_out oldest_of
@@ -146,8 +140,8 @@ take_did book = by (is_sound book) (next_turn book) refl
     by : (t : Bool) (next : Option ℕ) → next_turn book ≡ next → Out book (unless (demand t 20) (handed_out book next))
         (left_by (unless (demand t 20) (handed_out book next)) (λ (handed : Handed). removed book handed.shipper handed.number handed.shipper) book)
     by false next is = no_out 20 0
-    by true none is = no_out 27 0
-    by true (some turn) is =
+    by true None is = no_out 27 0
+    by true (Some turn) is =
         let s = of_turn book turn in
         went_out s (get_or (waiting_of book s) 0 0) s (turn_known book turn) (among_at _ (waiting_of book s) 0 (turn_any book turn is) refl) (turn_known book turn)
 

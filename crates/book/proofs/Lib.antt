@@ -1,4 +1,5 @@
 pub mod Bools
+pub mod Four
 pub mod Lists
 pub mod Waiting
 pub mod Lines
@@ -8,6 +9,7 @@ pub mod Calls
 pub mod Puts
 pub mod Empty
 pub mod Kept
+pub mod Changes
 pub mod Fates
 pub mod Counts
 pub mod Demand3

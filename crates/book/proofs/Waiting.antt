@@ -1,16 +1,16 @@
 -- Laws of a line's numbers when one more waits and when one leaves: which wait, how often, and at which place.
+use Rattle.std.specs.Prelude.{Some, None, ltb, slice_get}
+use Rattle.std.specs.List.{list_any, position, position_or_len}
 use mathlib.Core.Path.{◌≡◌, refl, sym, ap, ◌∙◌}
-use mathlib.Core.Bool.{Bool, true, false, ◌||◌, not, cond, or_assoc, or-true, true≢false}
+use mathlib.Core.Bool.{Bool, true, false, ◌&&◌, ◌||◌, not, cond, or_assoc, or-true, true≢false}
 use mathlib.Core.List.{List, [], ◌∷◌, ◌++◌}
 use Prim.Native.Nat.{ℕ, zero, suc, ◌+◌, ◌≤◌, ◌<◌}
 use native.Mathlib.Decide.{ℕ_discrete}
 use native.Mathlib.Nat.{suc-add}
-use native.Mathlib.Numerals.{add-one}
 use native.Mathlib.Omega.{arith}
-use borrow.Author.Tests.{eq-eqb, ne_eqb, eqb-true, not-true}
+use borrow.Author.Tests.{lt-ltb, eq-eqb, ne_eqb, eqb-true, not-true}
 use lib.Dec.{eqb}
-use lib.ListN.{length, take, drop, get_or, drop_of_length-le}
-use lib.Seq.{length-take-le, take-suc, drop-append-le}
+use lib.ListN.{length, take, drop, get_or}
 use Rattle.octets.specs.Lists.{is_one_of}
 use Rattle.book.specs.Line.{without, are_proper}
 use Rattle.book.specs.Demand3.{times}
@@ -27,6 +27,23 @@ eqb_sym x y = by (ℕ_discrete x y)
     by : Dec (x ≡ y) → eqb x y ≡ eqb y x
     by (yes same) = eq-eqb x y same ∙ sym (eq-eqb y x (sym same))
     by (no other) = ne_eqb x y other ∙ sym (ne_eqb y x (λ e. other (sym e)))
+
+-- what the library's search for a number tells
+pub contains_tells : (x : ℕ) (xs : List ℕ) → list_any (λ (y : ℕ). eqb y x) xs ≡ is_one_of x xs
+unfolding is_one_of
+contains_tells x [] = refl
+contains_tells x (y ∷ ys) = λ i. eqb_sym y x i || contains_tells x ys i
+
+-- proper numbers, one at a time
+pub proper_first : (y : ℕ) (ys xs : List ℕ) (nought twice : Bool) → xs ≡ y ∷ ys → eqb y 0 ≡ nought → list_any (λ (z : ℕ). eqb z y) ys ≡ twice
+    → are_proper xs ≡ (not nought && (not twice && are_proper ys))
+unfolding are_proper
+proper_first y ys xs nought twice is first second = ap are_proper is ∙ (λ i. not (first i) && (not ((sym (contains_tells y ys) ∙ second) i) && are_proper ys))
+
+pub proper_none : (xs : List ℕ) → length xs ≡ 0 → are_proper xs ≡ true
+unfolding are_proper
+proper_none [] is = refl
+proper_none (y ∷ ys) is = absurd (omega arith)
 
 -- the parts of what proper numbers tell
 module _ (y : ℕ) (ys : List ℕ) (proper : are_proper (y ∷ ys) ≡ true) where
@@ -54,21 +71,6 @@ pub among_append : (x : ℕ) (xs ys : List ℕ) → is_one_of x (xs ++ ys) ≡ (
 unfolding is_one_of
 among_append x [] ys = refl
 among_append x (z ∷ zs) ys = ap (λ (t : Bool). eqb x z || t) (among_append x zs ys) ∙ sym (or_assoc (eqb x z) (is_one_of x zs) (is_one_of x ys))
-
--- a number passed over from a place on
-pub missed_start : (x : ℕ) (xs : List ℕ) (from : ℕ) → from ≤ length xs → is_one_of x (drop from (take from xs)) ≡ false
-unfolding is_one_of
-missed_start x xs from h =
-    let short : length (take from xs) ≤ from = rw (length-take-le from xs h) (omega arith) in
-    ap (is_one_of x) (drop_of_length-le (take from xs) short)
-
-pub missed_next : (x : ℕ) (xs : List ℕ) (from i : ℕ) → from ≤ i → i < length xs → (x ≡ get_or xs i 0 → ⊥) → is_one_of x (drop from (take i xs)) ≡ false → is_one_of x (drop from (take (i + 1) xs)) ≡ false
-unfolding is_one_of
-missed_next x xs from i l h other new =
-    let long : length (take i xs) ≡ i = length-take-le i xs (omega arith) in
-    ap (λ (n : ℕ). is_one_of x (drop from (take n xs))) (add-one i) ∙ ap (λ (ys : List ℕ). is_one_of x (drop from ys)) (take-suc xs i 0 h)
-    ∙ ap (is_one_of x) (drop-append-le from (take i xs) (get_or xs i 0 ∷ []) (omega arith)) ∙ among_append x (drop from (take i xs)) (get_or xs i 0 ∷ [])
-    ∙ (λ j. new j || (ne_eqb x (get_or xs i 0) other j || false))
 
 pub proper_more : (x : ℕ) (xs : List ℕ) → are_proper xs ≡ true → is_one_of x xs ≡ false → (x ≡ 0 → ⊥) → are_proper (xs ++ (x ∷ [])) ≡ true
 unfolding are_proper is_one_of
@@ -147,16 +149,38 @@ unfolding without
 oldest_without [] h = absurd (omega arith)
 oldest_without (y ∷ ys) h = ap (λ (t : Bool). cond t ys (y ∷ without y ys)) (eq-eqb y y refl)
 
--- the first place that holds a number is the one that it gives up
-pub without_at : (x : ℕ) (xs : List ℕ) (p : ℕ) → p < length xs → is_one_of x (take p xs) ≡ false → get_or xs p 0 ≡ x → given_up p xs ≡ without x xs
+-- the first place that holds a number, or how many there are where none does
+abbrev pub place_of : ℕ → List ℕ → ℕ
+place_of x xs = position_or_len (λ (y : ℕ). eqb y x) xs
+
+pub place_found : (x : ℕ) (xs : List ℕ) → is_one_of x xs ≡ true → place_of x xs < length xs
+unfolding is_one_of
+place_found x [] is = absurd (true≢false (sym is))
+place_found x (y ∷ ys) is = by (eqb y x) refl (place_found x ys)
+  where
+    by : (t : Bool) → eqb y x ≡ t → (is_one_of x ys ≡ true → place_of x ys < length ys) → cond (not t) (1 + place_of x ys) 0 < suc (length ys)
+    by true same rest = omega arith
+    by false other rest = let further = rest (ap (λ (t : Bool). t || is_one_of x ys) (sym (eqb_sym x y ∙ other)) ∙ is) in omega arith
+
+-- it is the one that the number gives up
+pub place_gives_up : (x : ℕ) (xs : List ℕ) → is_one_of x xs ≡ true → given_up (place_of x xs) xs ≡ without x xs
 unfolding given_up without is_one_of
-without_at x [] p h new is = absurd (omega arith)
-without_at x (y ∷ ys) zero h new is = sym (ap (λ (t : Bool). cond t ys (y ∷ without x ys)) (eq-eqb x y (sym is)))
-without_at x (y ∷ ys) (suc p) h new is =
-    let other = neither_first (eqb x y) (is_one_of x (take p ys)) new in
-    let rest = without_at x ys p (omega arith) (neither_second (eqb x y) (is_one_of x (take p ys)) new) is in
-    ap (λ (n : ℕ). y ∷ take p ys ++ drop n (y ∷ ys)) (suc-add p 1) ∙ ap (λ (l : List ℕ). y ∷ l) rest
-    ∙ sym (ap (λ (t : Bool). cond t ys (y ∷ without x ys)) other)
+place_gives_up x [] is = absurd (true≢false (sym is))
+place_gives_up x (y ∷ ys) is = by (eqb y x) refl (place_gives_up x ys)
+  where
+    by : (t : Bool) → eqb y x ≡ t → (is_one_of x ys ≡ true → given_up (place_of x ys) ys ≡ without x ys)
+        → given_up (cond (not t) (1 + place_of x ys) 0) (y ∷ ys) ≡ cond (eqb x y) ys (y ∷ without x ys)
+    by true same rest = sym (ap (λ (t : Bool). cond t ys (y ∷ without x ys)) (eqb_sym x y ∙ same))
+    by false other rest =
+        let p = place_of x ys in
+        let next : 1 + p ≡ suc p = omega arith in
+        let further = rest (ap (λ (t : Bool). t || is_one_of x ys) (sym (eqb_sym x y ∙ other)) ∙ is) in
+        ap (λ (n : ℕ). given_up n (y ∷ ys)) next ∙ ap (λ (n : ℕ). y ∷ take p ys ++ drop n (y ∷ ys)) (suc-add p 1) ∙ ap (λ (l : List ℕ). y ∷ l) further
+        ∙ sym (ap (λ (t : Bool). cond t ys (y ∷ without x ys)) (eqb_sym x y ∙ other))
+
+-- what the library's search for its place finds
+pub place_is : (x : ℕ) (xs : List ℕ) → is_one_of x xs ≡ true → position (λ (y : ℕ). eqb y x) xs ≡ Some (place_of x xs)
+place_is x xs is = ap (λ (t : Bool). cond t (Some (place_of x xs)) None) (lt-ltb _ _ (place_found x xs is))
 
 -- a number stands no further back than k others
 pub record Stands (x : ℕ) (xs : List ℕ) (k : ℕ) : Type 0 where
@@ -179,3 +203,12 @@ stands_without x y (z ∷ zs) (suc p) other h is = by (eqb y z) (stands_without 
     by : (t : Bool) → Stands x (without y zs) p → Stands x (cond t zs (z ∷ without y zs)) (suc p)
     by true rest = record { place = p; near = omega arith; within = omega arith; there = is }
     by false rest = record { place = suc rest.place; near = omega arith; within = omega arith; there = rest.there }
+
+-- the first of some numbers, if there is one
+pub oldest : (xs : List ℕ) (n : ℕ) → Some n ≡ slice_get xs 0 → (ltb 0 (length xs) ≡ true) × (n ≡ get_or xs 0 0)
+oldest [] n is = (cc, cc)
+oldest (x ∷ xs) n is = (lt-ltb 0 _ (omega arith), cc)
+
+pub nobody : (xs : List ℕ) → None ≡ slice_get xs 0 → ltb 0 (length xs) ≡ false
+nobody [] is = refl
+nobody (x ∷ xs) is = cc

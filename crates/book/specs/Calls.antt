@@ -1,6 +1,5 @@
 -- 01, 'The book', and 02, 'Places by agreement': what a request, a withdrawal, a take and a setting answer, and the book that each leaves.
-use Rattle.std.specs.Prelude.{Bool, ◌||◌, not, [], ◌∷◌, ◌++◌, ℕ, ◌+◌, ◌%◌, ltb, eqb, get_or}
-use Rattle.std.proofs.Math.Option.{Option, none, some}
+use Rattle.std.specs.Prelude.{Bool, ◌||◌, not, [], ◌∷◌, ◌++◌, ℕ, ◌+◌, ◌%◌, ltb, eqb, get_or, Option, None, Some}
 use Rattle.refusals.specs.Told.{Told, done, refused, Fault, demand, or_else, unless, judged, left_by}
 use Rattle.octets.specs.FirstToLast.{first_place}
 use Rattle.octets.specs.Lists.{is_one_of}
@@ -8,9 +7,15 @@ use Rattle.book.specs.Line.{without}
 use Rattle.book.specs.Figures.{shippers, reserve, ceiling, commons, waiting_of, has, held, commons_used, put}
 use Rattle.book.specs.Rules.{keep_rules}
 use Rattle.book.specs.Sound.{is_sound}
-use Rattle.book.specs.Answers.{Handed, Shared}
+use Rattle.book.specs.declared.Handed.{Handed}
+use Rattle.book.specs.declared.Shared.{Shared}
 use Rattle.book.specs.declared.Book.{Book}
 use Rattle.book.specs.declared.Figures.{Figures}
+
+-- that a call was done, whatever it leaves
+abbrev pub done_with : {A : Type 0} → Told A → Told Unit
+done_with (done x) = done tt
+done_with (refused number at) = refused number at
 
 -- 'a request 20 to 25; a withdrawal 20, 21, 22, 26': the first three are the same.
 unfoldable pub call_fault : Book → ℕ → ℕ → Fault
@@ -78,8 +83,8 @@ oldest_of book shipper = record { shipper = shipper; number = get_or (waiting_of
 
 -- 'A take hands out the oldest request of the first shipper with any'; 27 where none has
 unfoldable pub handed_out : Book → Option ℕ → Told Handed
-handed_out book none = refused 27 0
-handed_out book (some turn) = done (oldest_of book (of_turn book turn))
+handed_out book None = refused 27 0
+handed_out book (Some turn) = done (oldest_of book (of_turn book turn))
 
 -- 'a take 20, 27'
 unfoldable pub take_of : Book → Told Handed

@@ -4,7 +4,7 @@ use Rattle.std.specs.Prelude.{◌≡◌, Bool, true, false, ◌&&◌, cond, List
 use Rattle.refusals.specs.Told.{Told, done, refused, judged}
 use Rattle.book.specs.Figures.{held}
 use Rattle.book.specs.Sound.{is_sound}
-use Rattle.book.specs.Answers.{Handed}
+use Rattle.book.specs.declared.Handed.{Handed}
 use Rattle.book.specs.Calls.{request_fault, after_request, withdrawal_fault, after_withdrawal, take_of, after_take, setting_fault, after_setting}
 use Rattle.book.specs.declared.Book.{Book}
 use Rattle.book.specs.declared.Figures.{Figures}

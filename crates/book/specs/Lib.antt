@@ -2,6 +2,5 @@ pub mod Line
 pub mod Figures
 pub mod Rules
 pub mod Sound
-pub mod Answers
 pub mod Calls
 pub mod Demand3

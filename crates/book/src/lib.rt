@@ -3,14 +3,14 @@
 #![tactic(auto)]
 
 ghost use Rattle.std.specs.Prelude.{◌≡◌, true, ◌<◌};
-ghost use Rattle.refusals.specs.Told.{fine};
+ghost use Rattle.refusals.specs.Told.{judged, left_by};
 ghost use Rattle.octets.specs.Lists.{is_one_of};
-ghost use Rattle.book.specs.Answers.{told_change, told_take, told_commons};
-ghost use Rattle.book.specs.Calls.{request_fault, request_of, entered, after_request, withdrawal_of, removed, after_withdrawal, take_of, after_take, agreed, setting_of, after_setting, commons_of};
+ghost use Rattle.book.specs.Calls.{request_fault, request_of, entered, after_request, withdrawal_fault, withdrawal_of, removed, after_withdrawal, take_of, after_take, agreed, setting_fault, setting_of, after_setting, commons_of, done_with};
 ghost use Rattle.book.specs.Figures.{empty_book, waiting_of};
 ghost use Rattle.book.specs.Sound.{is_sound};
+ghost use Rattle.refusals.specs.Answered.{told};
 
-use refusals::{Refusal, Verdict};
+use refusals::Refusal;
 
 mod judge;
 mod queue;
@@ -82,67 +82,68 @@ impl Book {
     }
 }
 
-// What a request, a withdrawal and a setting are answered.
-#[derive(Clone, Copy)]
-pub enum Change {
-    Made,
-    Refused(Refusal),
-}
-
+// A type of its own beside `Taken`, since the named theorems on sessions speak of both.
 #[derive(Clone, Copy)]
 pub struct Changed {
     pub book: Book,
-    pub answer: Change,
+    pub answer: Result<(), Refusal>,
 }
 
+// A request that a take hands out: its shipper and its number, the oldest that the shipper has.
 #[derive(Clone, Copy)]
-pub enum Handout {
-    // The shipper, and the number of its oldest request.
-    Handed(u8, u32),
-    Refused(Refusal),
+pub struct Handed {
+    pub shipper: u8,
+    pub number: u32,
 }
 
 #[derive(Clone, Copy)]
 pub struct Taken {
     pub book: Book,
-    pub answer: Handout,
+    pub answer: Result<Handed, Refusal>,
 }
 
+// The places that are nobody's reserve, and how many of them are used.
 #[derive(Clone, Copy)]
-pub enum Commons {
-    // The places that are nobody's reserve, and how many of them are used.
-    Shared(usize, usize),
-    Refused(Refusal),
+pub struct Shared {
+    pub commons: usize,
+    pub used: usize,
+}
+
+// The answer of a call, and the book that it leaves: a refusal hands the same book back.
+fn change(book: Book, next: Result<Book, Refusal>) -> Changed
+    ensures answer { told result.answer ≡ done_with (told next) }
+    ensures book { result.book ≡ left_by (told next) (λ left. left) book }
+{
+    match next {
+        Ok(left) => Changed {
+            book: left,
+            answer: Ok(()),
+        },
+        Err(refusal) => Changed {
+            book,
+            answer: Err(refusal),
+        },
+    }
 }
 
 // The book with the request waiting behind those of its own shipper.
-fn enter(book: Book, shipper: u8, number: u32) -> Book
-    requires { request_fault book shipper number ≡ fine }
-    ensures { result ≡ entered book shipper number }
+#[tactic(auto, unfolding(crate::specs::Calls::entered))]
+fn enter(book: Book, shipper: u8, number: u32) -> Result<Book, Refusal>
+    ensures { told result ≡ judged (request_fault book shipper number) (entered book shipper number) }
 {
+    judge::judge_request(book, shipper, number)?;
     let at = shipper as usize;
-    let line = book.lines[at];
-    let longer = queue::lengthen(line, number);
     let mut next = book;
-    next.lines[at] = longer;
-    next
+    next.lines[at] = queue::lengthen(book.lines[at], number);
+    Ok(next)
 }
 
 // A shipper asks that a request waits.
+#[tactic(auto, using(crate::proofs::Changes::changes), unfolding(crate::specs::Calls::request_of, crate::specs::Calls::after_request))]
 pub fn request(book: Book, shipper: u8, number: u32) -> Changed
-    ensures { (told_change result.answer ≡ request_of book shipper number) × (result.book ≡ after_request book shipper number) }
+    ensures { (told result.answer ≡ request_of book shipper number) × (result.book ≡ after_request book shipper number) }
 {
-    let verdict = judge::judge_request(book, shipper, number);
-    match verdict {
-        Verdict::Fine => Changed {
-            book: enter(book, shipper, number),
-            answer: Change::Made,
-        },
-        Verdict::Refused(refusal) => Changed {
-            book,
-            answer: Change::Refused(refusal),
-        },
-    }
+    change(book, enter(book, shipper, number))
 }
 
 // The book without the request, and with this last served; the rest of its shipper's wait in their
@@ -153,80 +154,68 @@ fn remove(book: Book, shipper: u8, number: u32, last: u8) -> Book
 {
     let at = shipper as usize;
     let line = book.lines[at];
-    let shorter = queue::shorten(line, queue::place(line, 0, number));
+    let place = queue::place(line, number).unwrap();
     let mut next = book;
-    next.lines[at] = shorter;
+    next.lines[at] = queue::shorten(line, place);
     next.last = last;
     next
 }
 
-// A shipper takes a request back.
-pub fn withdraw(book: Book, shipper: u8, number: u32) -> Changed
-    ensures { (told_change result.answer ≡ withdrawal_of book shipper number) × (result.book ≡ after_withdrawal book shipper number) }
+// The book without the request, if it waits.
+fn take_back(book: Book, shipper: u8, number: u32) -> Result<Book, Refusal>
+    ensures { told result ≡ judged (withdrawal_fault book shipper number) (removed book shipper number book.last) }
 {
-    let verdict = judge::judge_withdrawal(book, shipper, number);
-    match verdict {
-        Verdict::Fine => Changed {
-            book: remove(book, shipper, number, book.last),
-            answer: Change::Made,
-        },
-        Verdict::Refused(refusal) => Changed {
-            book,
-            answer: Change::Refused(refusal),
-        },
-    }
+    judge::judge_withdrawal(book, shipper, number)?;
+    Ok(remove(book, shipper, number, book.last))
+}
+
+// A shipper takes a request back.
+#[tactic(auto, using(crate::proofs::Changes::changes), unfolding(crate::specs::Calls::withdrawal_of, crate::specs::Calls::after_withdrawal))]
+pub fn withdraw(book: Book, shipper: u8, number: u32) -> Changed
+    ensures { (told result.answer ≡ withdrawal_of book shipper number) × (result.book ≡ after_withdrawal book shipper number) }
+{
+    change(book, take_back(book, shipper, number))
 }
 
 // The prover is free: the next request is handed out.
 pub fn take(book: Book) -> Taken
-    ensures { (told_take result.answer ≡ take_of book) × (result.book ≡ after_take book) }
+    ensures { (told result.answer ≡ take_of book) × (result.book ≡ after_take book) }
 {
     let answer = judge::judge_take(book);
     match answer {
-        Handout::Handed(shipper, number) => Taken {
-            book: remove(book, shipper, number, shipper),
+        Ok(handed) => Taken {
+            book: remove(book, handed.shipper, handed.number, handed.shipper),
             answer,
         },
-        Handout::Refused(_) => Taken { book, answer },
+        Err(_) => Taken { book, answer },
     }
 }
 
 // The book with other figures: the turn order is kept.
-fn agree(book: Book, figures: Figures) -> Book
-    ensures { result ≡ agreed book figures }
+#[tactic(auto, unfolding(crate::specs::Calls::agreed))]
+fn agree(book: Book, figures: Figures) -> Result<Book, Refusal>
+    ensures { told result ≡ judged (setting_fault book figures) (agreed book figures) }
 {
-    let mut next = book;
-    next.figures = figures;
-    next
+    judge::judge_setting(book, figures)?;
+    Ok(Book { figures, ..book })
 }
 
 // Figures are set on an empty book.
+#[tactic(auto, using(crate::proofs::Changes::changes), unfolding(crate::specs::Calls::setting_of, crate::specs::Calls::after_setting))]
 pub fn set_figures(book: Book, figures: Figures) -> Changed
-    ensures { (told_change result.answer ≡ setting_of book figures) × (result.book ≡ after_setting book figures) }
+    ensures { (told result.answer ≡ setting_of book figures) × (result.book ≡ after_setting book figures) }
 {
-    let verdict = judge::judge_setting(book, figures);
-    match verdict {
-        Verdict::Fine => Changed {
-            book: agree(book, figures),
-            answer: Change::Made,
-        },
-        Verdict::Refused(refusal) => Changed {
-            book,
-            answer: Change::Refused(refusal),
-        },
-    }
+    change(book, agree(book, figures))
 }
 
 // The shared places, and how many of them are used.
-pub fn tell_commons(book: Book) -> Commons
-    ensures { told_commons result ≡ commons_of book }
+#[tactic(auto, unfolding(crate::specs::Calls::commons_of, crate::specs::Figures::commons, crate::specs::Figures::places, crate::specs::Figures::reserve))]
+pub fn tell_commons(book: Book) -> Result<Shared, Refusal>
+    ensures { told result ≡ commons_of book }
 {
-    if sound::is_sound(book) {
-        Commons::Shared(
-            rules::count_commons(book.figures),
-            sound::count_commons_used(book),
-        )
-    } else {
-        Commons::Refused(Refusal::BookNotSound)
-    }
+    refusals::demand(sound::is_sound(book), Refusal::BookNotSound)?;
+    Ok(Shared {
+        commons: rules::count_commons(book.figures),
+        used: sound::count_commons_used(book),
+    })
 }

@@ -1,3 +1,4 @@
+pub mod Judged
 pub mod Fields
 pub mod Magnitudes
 pub mod Sound

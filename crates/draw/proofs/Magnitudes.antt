@@ -1,5 +1,6 @@
 -- The magnitudes of a fill's figures and of a pass's factors within the paper's ranges, and that the code's quotients are the paper's:
 -- drawn's product and the corrected volume's dividend pass 64 bits.
+use Rattle.std.specs.Prelude.{Result}
 use mathlib.Core.Path.{◌≡◌, refl, ap, ◌∙◌}
 use mathlib.Core.Bool.{true}
 use Prim.Native.Nat.{ℕ, ◌+◌, ◌*◌, ◌≤◌, ◌<◌}
@@ -21,11 +22,10 @@ use Rattle.factors.specs.Prover.{pipe_ok}
 use Rattle.factors.specs.Liquid.{liquid_ok, cpl_from}
 use Rattle.factors.specs.Fractions.{cts, cps, cpl}
 use Rattle.factors.specs.Rounded.{cts_at, cps_at, cpl_at}
-use Rattle.factors.specs.Answers.{told, cts_of, value_or_zero as factor_or_zero}
+use Rattle.factors.specs.Answers.{cts_of}
 use Rattle.factors.specs.declared.Metal.{Metal}
 use Rattle.factors.specs.declared.Metal.TheVariants.{Certified}
 use Rattle.factors.specs.declared.Pipe.{Pipe}
-use Rattle.factors.specs.declared.Factor.{Factor}
 use Rattle.factors.specs.declared.Places.TheVariants.{Six}
 use Rattle.factors.proofs.Steel.{parts, Loads, loads}
 use Rattle.factors.proofs.Squeezed.{all_fit}
@@ -35,6 +35,8 @@ use Rattle.draw.specs.Drawn.{adjusted, measure_cts, prover_cts, ccts, drawn}
 use Rattle.draw.specs.Passes.{water_at, corrected_volume}
 use Rattle.draw.specs.declared.FillRecord.{FillRecord}
 use Rattle.draw.proofs.Fields.{Fields, fields}
+use Rattle.refusals.specs.declared.Refusal.{Refusal}
+use Rattle.refusals.specs.Answered.{told}
 
 -- CTS is nowhere near zero
 cts_least : (metal : Metal) (t : ℤ) → metal_ok metal ≡ true → temperature_ok t ≡ true → 500000 ≤ cts_at 6 metal t
@@ -44,7 +46,7 @@ cts_least metal t m ok =
     at_least _ 500000 (omega arith) (omega (arith, parts _ gc (warm t ok)))
 
 -- CTS as the code has it: the temperature passed on as a machine's signed number
-pub cts-at : (f : Factor) (metal : Metal) (t : ℤ) {x : ℕ} → mag t < 32768 → x ≡ factor_or_zero f → told f ≡ cts_of 6 metal (to_z w16 (of_z w16 t)) → metal_ok metal ≡ true → temperature_ok t ≡ true → x ≡ cts_at 6 metal t
+pub cts-at : (f : Result ℕ Refusal) (metal : Metal) (t : ℤ) {x : ℕ} → mag t < 32768 → x ≡ value_or_zero f → told f ≡ cts_of 6 metal (to_z w16 (of_z w16 t)) → metal_ok metal ≡ true → temperature_ok t ≡ true → x ≡ cts_at 6 metal t
 cts-at f metal t fits is answer m ok = is ∙ cts_value f Six metal t (answer ∙ ap (cts_of 6 metal) (passed_on t fits)) m ok
 
 module _ (metal : Metal) (fill : FillRecord) (m : metal_ok metal ≡ true) (ok : fill_ok fill ≡ true) where

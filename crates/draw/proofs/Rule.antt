@@ -1,10 +1,10 @@
 -- What the pass rule says of a sound draw: passes begin at 1 and rise by at most one, every pass from 1 to the last has a fill, and every fill
 -- of a pass carries the pass's pressure.
+use Rattle.std.specs.Prelude.{Option, None, Some}
 use mathlib.Core.Path.{◌≡◌, refl, sym, ap, ◌∙◌}
 use mathlib.Core.Logic.{◌⊎◌, inl, inr, ⊎_elim, by_cases}
 use mathlib.Core.Bool.{Bool, true, false, ◌||◌}
 use mathlib.Core.List.{List}
-use mathlib.Core.Option.{Option, none, some}
 use Prim.Native.Nat.{ℕ, zero, suc, ◌+◌, ◌-◌, ◌≤◌, ◌<◌}
 use native.Mathlib.Decide.{dec_le}
 use native.Mathlib.Omega.{arith}
@@ -84,8 +84,8 @@ module _ (prover : Prover) (s : List ℕ) (good : Sound prover s) where
       of_itself = eq-eqb (fill_at s i).pass (fill_at s i).pass refl
 
       by_place : (at : Option ℕ) → first_place (is_of s (fill_at s i).pass) (records_in 32 s) 0 ≡ at → (fill_at s i).pressure ≡ pressure_at s at
-      by_place none is = let z : true ≡ false = sym of_itself ∙ place_none (is_of s (fill_at s i).pass) (records_in 32 s) 0 is i (omega arith) (omega arith) in cc
-      by_place (some k) is =
+      by_place None is = let z : true ≡ false = sym of_itself ∙ place_none (is_of s (fill_at s i).pass) (records_in 32 s) 0 is i (omega arith) (omega arith) in cc
+      by_place (Some k) is =
           let first : First (is_of s (fill_at s i).pass) (records_in 32 s) 0 k = place_first (is_of s (fill_at s i).pass) (records_in 32 s) 0 is in
           by_cases (dec_le k i)
           (λ le. (later k i le h).same (sym (eqb-true (fill_at s k).pass (fill_at s i).pass first.passes)))

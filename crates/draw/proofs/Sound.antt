@@ -21,9 +21,10 @@ use Rattle.draw.specs.Passes.{pass_count}
 use Rattle.draw.specs.Profile.{passes_fit, volume_count}
 use Rattle.draw.specs.Answers.{record_fault, fill_fault, fills_fault, alone_fault, draw_fault}
 use Rattle.draw.specs.declared.Profile.{Profile}
+use Rattle.draw.specs.declared.passing.Judged.{Judged}
 use Rattle.draw.specs.declared.Profile.TheVariants.{Unidirectional, Bidirectional}
 
-record_fields : (s : List ℕ) (i : ℕ) → record_fault s i ≡ fine → fill_ok (fill_at s i) ≡ true
+pub record_fields : (s : List ℕ) (i : ℕ) → record_fault s i ≡ fine → fill_ok (fill_at s i) ≡ true
 unfolding record_fault
 record_fields s i is = demand_at_was (fill_ok (fill_at s i)) 5 (i + 1) (or_else_fine_first (demand_at (fill_ok (fill_at s i)) 5 (i + 1)) _ is)
 
@@ -77,9 +78,10 @@ module _ (profile : Profile) (prover : Prover) (s : List ℕ) (is : draw_fault p
   unfolding draw_fault
   fills_fine = or_else_fine_first (fills_fault prover s) _ is
 
-  pub draw_sound : Sound prover s
-  draw_sound = sound prover s fills_fine
-
   pub few_volumes : volume_count profile s ≤ 20
   unfolding draw_fault
   few_volumes = few profile s (demand_was (passes_fit profile (pass_count s)) 1 (or_else_fine_next (fills_fault prover s) _ is))
+
+-- and of one that is held as judged
+pub sound_of : (draw : Judged) → Sound draw.prover draw.records.now
+sound_of draw = sound draw.prover draw.records.now draw.nothing

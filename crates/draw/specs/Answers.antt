@@ -1,7 +1,6 @@
 -- What each entry answers, by the paper's order: 1, 3, records first to last with 5, 2 and 6, 1 for the passes, 9.
 use Rattle.std.specs.Prelude.{◌&&◌, List, [], ℕ, ◌+◌, eqb, length}
-use Rattle.refusals.specs.Table.{number_of, record_of}
-use Rattle.refusals.specs.Told.{Told, done, refused, Fault, demand, demand_at, or_else, unless, judged, left_by}
+use Rattle.refusals.specs.Told.{Told, Fault, demand, demand_at, or_else, unless, judged, left_by}
 use Rattle.ranges.specs.Table.{fills_ok}
 use Rattle.octets.specs.FirstToLast.{scan}
 use Rattle.octets.specs.Records.{records_in, are_records, zeros_after}
@@ -16,28 +15,7 @@ use Rattle.draw.specs.Profile.{passes_fit, volume_count, volumes_of}
 use Rattle.draw.specs.Base.{base_of}
 use Rattle.draw.specs.declared.Profile.{Profile}
 use Rattle.draw.specs.declared.FillFigures.{FillFigures}
-use Rattle.draw.specs.declared.FillAnswer.{FillAnswer}
-use Rattle.draw.specs.declared.FillAnswer.TheVariants.{Figures as Worked, Refused as Fill-as-Refused}
-use Rattle.draw.specs.declared.Counted.{Counted}
-use Rattle.draw.specs.declared.Counted.TheVariants.{Volumes, Refused as Counted-as-Refused}
 use Rattle.draw.specs.declared.BaseVolume.{BaseVolume}
-use Rattle.draw.specs.declared.WaterDraw.{WaterDraw}
-use Rattle.draw.specs.declared.WaterDraw.TheVariants.{Drawn, Refused}
-
--- a fill's figures, or the paper's number and record
-abbrev pub told_fill : FillAnswer → Told FillFigures
-told_fill (Worked figures) = done figures
-told_fill (Fill-as-Refused refusal) = refused (number_of refusal) (record_of refusal)
-
--- the count of volumes, or the paper's number and record
-abbrev pub told_count : Counted → Told ℕ
-told_count (Volumes count) = done count
-told_count (Counted-as-Refused refusal) = refused (number_of refusal) (record_of refusal)
-
--- the base volume, or the paper's number and record
-abbrev pub told_draw : WaterDraw → Told BaseVolume
-told_draw (Drawn base) = done base
-told_draw (Refused refusal) = refused (number_of refusal) (record_of refusal)
 
 -- one record: 'each with 5, 2', with its number from 1
 unfoldable pub record_fault : List ℕ → ℕ → Fault

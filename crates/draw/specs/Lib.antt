@@ -4,3 +4,4 @@ pub mod Passes
 pub mod Profile
 pub mod Base
 pub mod Answers
+pub mod Volumes

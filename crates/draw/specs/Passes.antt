@@ -1,6 +1,5 @@
 -- 01, 'Water draw': 'A pass is the sum of its fills, divided by the unrounded product CPS × CPL, then rounded.'
-use Rattle.std.specs.Prelude.{Bool, cond, List, ℕ, ◌-◌, ◌*◌, ◌^◌, eqb}
-use Rattle.std.proofs.Math.Option.{Option, none, some}
+use Rattle.std.specs.Prelude.{Bool, cond, List, ℕ, ◌-◌, ◌*◌, ◌^◌, eqb, Option, None, Some}
 use Rattle.octets.specs.FirstToLast.{first_place}
 use Rattle.octets.specs.Records.{records_in}
 use Rattle.exact.specs.Rounding.{rounded_div}
@@ -32,8 +31,8 @@ pass_sum metal s pass = sum_of (listed (drawn_for metal s pass) (records_in 32 s
 
 -- the pressure of the fill at a place, and 0 where there is no place
 abbrev pub pressure_at : List ℕ → Option ℕ → ℕ
-pressure_at s none = 0
-pressure_at s (some i) = (fill_at s i).pressure
+pressure_at s None = 0
+pressure_at s (Some i) = (fill_at s i).pressure
 
 -- 'all fills of a pass carry one pressure': that of its first fill
 unfoldable pub pass_pressure : List ℕ → ℕ → ℕ

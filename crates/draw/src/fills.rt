@@ -7,38 +7,68 @@ ghost use Rattle.draw.specs.Drawn.{adjusted, figures_of};
 use crate::{FillFigures, FillRecord};
 use factors::{Metal, Places};
 
-// The record numbered i, from 0, of at most 60.
-pub(crate) fn decode(s: &[u8], i: usize) -> FillRecord
-    requires { i < 60 }
-    ensures { result ≡ fill_at s.now i }
-{
-    let at = 32 * i;
-    FillRecord {
-        certified: octets::long_at(s, at),
-        scale: octets::signed_at(s, at + 4),
-        prover: octets::signed_at(s, at + 6),
-        measure: octets::signed_at(s, at + 8),
-        coefficient: octets::word_at(s, at + 10),
-        ctdw: octets::long_at(s, at + 12),
-        pass: octets::byte_at(s, at + 16),
-        pressure: octets::word_at(s, at + 18),
+// A record of those lent, by its number from 0; there are at most 60.
+#[derive(Clone, Copy)]
+pub(crate) struct Place<'a> {
+    pub(crate) records: &'a [u8],
+    pub(crate) i: usize,
+    ghost few: { i < 60 },
+}
+
+impl Place<'_> {
+    pub(crate) fn decode(&self) -> FillRecord
+        ensures { result ≡ fill_at self.now.records.now self.now.i }
+    {
+        let at = 32 * self.i;
+        FillRecord {
+            certified: octets::long_at(self.records, at),
+            scale: octets::signed_at(self.records, at + 4),
+            prover: octets::signed_at(self.records, at + 6),
+            measure: octets::signed_at(self.records, at + 8),
+            coefficient: octets::word_at(self.records, at + 10),
+            ctdw: octets::long_at(self.records, at + 12),
+            pass: octets::byte_at(self.records, at + 16),
+            pressure: octets::word_at(self.records, at + 18),
+        }
     }
-}
 
-// The pass of such a record: to tell whose fill it is, the rest of it is not read.
-pub(crate) fn pass_at(s: &[u8], i: usize) -> u8
-    requires { i < 60 }
-    ensures { result ≡ (fill_at s.now i).pass }
-{
-    octets::byte_at(s, 32 * i + 16)
-}
+    // The pass of such a record: to tell whose fill it is, the rest of it is not read.
+    pub(crate) fn pass(&self) -> u8
+        ensures { result ≡ (fill_at self.now.records.now self.now.i).pass }
+    {
+        octets::byte_at(self.records, 32 * self.i + 16)
+    }
 
-// And its pressure.
-pub(crate) fn pressure_at(s: &[u8], i: usize) -> u16
-    requires { i < 60 }
-    ensures { result ≡ (fill_at s.now i).pressure }
-{
-    octets::word_at(s, 32 * i + 18)
+    // And its pressure.
+    pub(crate) fn pressure(&self) -> u16
+        ensures { result ≡ (fill_at self.now.records.now self.now.i).pressure }
+    {
+        octets::word_at(self.records, 32 * self.i + 18)
+    }
+
+    // The bytes that the paper does not name: 17, and 20 to 31.
+    pub(crate) fn are_unnamed_zero(&self) -> bool
+        ensures { result ≡ unnamed_ok self.now.records.now self.now.i }
+    {
+        let at = 32 * self.i;
+        octets::are_zero(self.records, at + 17, at + 18)
+            & octets::are_zero(self.records, at + 20, at + 32)
+    }
+
+    // The pass and its pressure keep the rule, seen from the record before.
+    pub(crate) fn keeps_pass_rule(&self) -> bool
+        ensures { result ≡ rule_ok self.now.records.now self.now.i }
+    {
+        let fill = self.decode();
+        if self.i == 0 {
+            return fill.pass == 1;
+        }
+        let before = Place {
+            records: self.records,
+            i: self.i - 1,
+        };
+        is_next(before.decode(), fill)
+    }
 }
 
 // Every field of the record is in its range; the pass byte has none.
@@ -54,33 +84,12 @@ pub(crate) fn is_fill(fill: FillRecord) -> bool
                             & ranges::is_pressure(fill.pressure as u64))))))
 }
 
-// The bytes that the paper does not name: 17, and 20 to 31.
-pub(crate) fn are_unnamed_zero(s: &[u8], i: usize) -> bool
-    requires { i < 60 }
-    ensures { result ≡ unnamed_ok s.now i }
-{
-    let at = 32 * i;
-    octets::are_zero(s, at + 17, at + 18) & octets::are_zero(s, at + 20, at + 32)
-}
-
 // A fill of the same pass has the same pressure; any other begins the next pass.
 fn is_next(before: FillRecord, fill: FillRecord) -> bool
     ensures { result ≡ follows before fill }
 {
     let same = (fill.pass == before.pass) & (fill.pressure == before.pressure);
     same | (fill.pass as u16 == before.pass as u16 + 1)
-}
-
-// The pass and its pressure keep the rule, seen from the record before.
-pub(crate) fn keeps_pass_rule(s: &[u8], i: usize) -> bool
-    requires { i < 60 }
-    ensures { result ≡ rule_ok s.now i }
-{
-    let fill = decode(s, i);
-    if i == 0 {
-        return fill.pass == 1;
-    }
-    is_next(decode(s, i - 1), fill)
 }
 
 fn adjust(fill: FillRecord) -> u64

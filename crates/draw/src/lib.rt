@@ -5,11 +5,14 @@
 
 ghost use Rattle.std.specs.Prelude.{◌≡◌, ◌≤◌, length};
 ghost use Rattle.draw.specs.Base.{barrels_of, base_from, base_of};
-ghost use Rattle.draw.specs.Answers.{told_fill, told_count, told_draw, fill_of, count_of, held_for, draw_of};
+ghost use Rattle.draw.specs.Answers.{fill_of, count_of, held_for, draw_of};
+ghost use Rattle.draw.specs.Volumes.{counted, held};
+ghost use Rattle.refusals.specs.Answered.{told};
 
 use factors::{Metal, Prover};
-use group::Group;
-use refusals::{Refusal, Verdict};
+use fills::Place;
+use passing::Judged;
+use refusals::Refusal;
 
 mod fills;
 mod judging;
@@ -48,24 +51,11 @@ pub struct FillFigures {
     pub drawn: u64,
 }
 
-#[derive(Clone, Copy)]
-pub enum FillAnswer {
-    Figures(FillFigures),
-    Refused(Refusal),
-}
-
-// How many volumes there are: of passes, or of round trips.
-#[derive(Clone, Copy)]
-pub enum Counted {
-    Volumes(u8),
-    Refused(Refusal),
-}
-
-// Each volume, in the order of passes or round trips, and zeros after the last; zeros alone beside a
-// refusal.
+// How many volumes there are, and each of them, in the order of passes or round trips; zeros after the last.
+// An array with its count, since a draw takes no memory but its caller's.
 #[derive(Clone, Copy)]
 pub struct DrawVolumes {
-    pub answer: Counted,
+    pub count: u8,
     pub volumes: [u64; 20],
 }
 
@@ -77,50 +67,29 @@ pub struct BaseVolume {
     pub first: u8,
 }
 
-#[derive(Clone, Copy)]
-pub enum WaterDraw {
-    Drawn(BaseVolume),
-    Refused(Refusal),
-}
-
 // One fill's figures. A record alone has no record before it, so the pass rule is not judged.
-pub fn fill(metal: Metal, bytes: &[u8]) -> FillAnswer
-    ensures { told_fill result ≡ fill_of metal bytes.now }
+pub fn fill(metal: Metal, bytes: &[u8]) -> Result<FillFigures, Refusal>
+    ensures { told result ≡ fill_of metal bytes.now }
 {
-    let verdict = refusals::or_else(
-        refusals::demand(bytes.len() == 32, Refusal::Records),
-        refusals::or_else(
-            refusals::demand(factors::is_metal(metal), Refusal::ProverSetting),
-            judging::judge_record(bytes, 0),
-        ),
-    );
-    match verdict {
-        Verdict::Fine => FillAnswer::Figures(fills::work_out(metal, fills::decode(bytes, 0))),
-        Verdict::Refused(refusal) => FillAnswer::Refused(refusal),
-    }
+    refusals::demand(bytes.len() == 32, Refusal::Records)?;
+    refusals::demand(factors::is_metal(metal), Refusal::ProverSetting)?;
+    let alone = Place {
+        records: bytes,
+        i: 0,
+    };
+    judging::judge_record(&alone)?;
+    Ok(fills::work_out(metal, alone.decode()))
 }
 
 // The volumes of all passes of a draw, or of all its round trips; three of them need not qualify.
-pub fn volumes(profile: Profile, prover: Prover, records: &[u8]) -> DrawVolumes
-    ensures { (told_count result.answer ≡ count_of profile prover records.now) × (result.volumes ≡ held_for profile prover records.now) }
+pub fn volumes(profile: Profile, prover: Prover, records: &[u8]) -> Result<DrawVolumes, Refusal>
+    ensures { (counted (told result) ≡ count_of profile prover records.now) × (held (told result) ≡ held_for profile prover records.now) }
 {
-    let verdict = judging::judge_draw(profile, prover, records);
-    match verdict {
-        Verdict::Fine => {
-            let count = profiles::count_volumes(profile, records);
-            let volumes = passing::collect(profile, prover, records, count);
-            DrawVolumes {
-                answer: Counted::Volumes(count),
-                volumes,
-            }
-        }
-        Verdict::Refused(refusal) => {
-            DrawVolumes {
-                answer: Counted::Refused(refusal),
-                volumes: [0u64; 20],
-            }
-        }
-    }
+    judging::judge_draw(profile, prover, records)?;
+    let judged = Judged { prover, records };
+    let count = profiles::count_volumes(profile, &judged);
+    let volumes = judged.collect(profile, count);
+    Ok(DrawVolumes { count, volumes })
 }
 
 // 9702.00 cubic inches are one barrel.
@@ -144,32 +113,20 @@ fn base_from(profile: Profile, three: &[u64], at: usize) -> BaseVolume
 }
 
 // The first three consecutive volumes that qualify decide.
-fn decide(profile: Profile, volumes: &[u64]) -> WaterDraw
+fn decide(profile: Profile, volumes: &[u64]) -> Result<BaseVolume, Refusal>
     requires { length volumes.now ≤ 20 }
-    ensures { told_draw result ≡ base_of profile 2 3 volumes.now }
+    ensures { told result ≡ base_of profile 2 3 volumes.now }
 {
-    let found = group::first_group(volumes, 3, 2);
-    match found {
-        Group::At(at) => {
-            let three = &volumes[at..at + 3];
-            WaterDraw::Drawn(base_from(profile, three, at))
-        }
-        Group::Nothing => WaterDraw::Refused(Refusal::NoGroup),
-    }
+    let at = group::first_group(volumes, 3, 2).ok_or(Refusal::NoGroup)?;
+    let three = &volumes[at..at + 3];
+    Ok(base_from(profile, three, at))
 }
 
 // The water draw. The prover's base volume is not judged: the draw is what gives one.
-pub fn draw(profile: Profile, prover: Prover, records: &[u8]) -> WaterDraw
-    ensures { told_draw result ≡ draw_of profile prover records.now }
+pub fn draw(profile: Profile, prover: Prover, records: &[u8]) -> Result<BaseVolume, Refusal>
+    ensures { told result ≡ draw_of profile prover records.now }
 {
-    let found = volumes(profile, prover, records);
-    let answer = found.answer;
-    match answer {
-        Counted::Volumes(count) => {
-            let volumes = found.volumes;
-            let end = count as usize;
-            decide(profile, &volumes[..end])
-        }
-        Counted::Refused(refusal) => WaterDraw::Refused(refusal),
-    }
+    let found = volumes(profile, prover, records)?;
+    let end = found.count as usize;
+    decide(profile, &found.volumes[..end])
 }

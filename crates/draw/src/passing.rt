@@ -1,61 +1,18 @@
 // The volume of each pass (01, 'Water draw') and of each round trip (02), of a draw in whose records judging
 // found nothing.
-ghost use Rattle.std.specs.Prelude.{◌≡◌, true, ℕ, ◌<◌, ◌≤◌};
+ghost use Rattle.std.specs.Prelude.{◌≡◌, true, ◌<◌, ◌≤◌};
 ghost use Rattle.refusals.specs.Told.{fine};
 ghost use Rattle.ranges.specs.Table.{pressure_ok};
 ghost use Rattle.octets.specs.Records.{records_in, zeros_after};
 ghost use Rattle.group.specs.Listed.{listed};
 ghost use Rattle.factors.specs.Prover.{pipe_ok};
-ghost use Rattle.factors.specs.Metal.{metal_ok};
-ghost use Rattle.draw.specs.Fill.{fill_at, fill_ok};
-ghost use Rattle.draw.specs.Passes.{drawn_for, pass_sum, pass_pressure, corrected_volume, pass_volume};
+ghost use Rattle.draw.specs.Passes.{pass_count, drawn_for, pass_sum, pass_pressure, corrected_volume, pass_volume};
 ghost use Rattle.draw.specs.Profile.{trip_volume, volume_of};
 ghost use Rattle.draw.specs.Answers.{fills_fault};
 
+use crate::fills::Place;
 use crate::{Profile, fills};
-use factors::{Liquid, Metal, Pipe, Places, Prover};
-
-// What the fill adds to a pass: the volume drawn, if it is a fill of that pass.
-fn add_to_pass(metal: Metal, s: &[u8], pass: u8, i: usize) -> u64
-    requires { (i < 60) × (metal_ok metal ≡ true) × (fill_ok (fill_at s.now i) ≡ true) }
-    ensures { (result ≡ drawn_for metal s.now pass i) × (result ≤ 500000000) }
-{
-    if fills::pass_at(s, i) == pass {
-        return fills::work_out(metal, fills::decode(s, i)).drawn;
-    }
-    0
-}
-
-// The sum of a pass's fills.
-fn add_up(metal: Metal, s: &[u8], pass: u8) -> u64
-    requires { (metal_ok metal ≡ true) × (records_in 32 s.now ≤ 60) × ((k : ℕ) → k < records_in 32 s.now → fill_ok (fill_at s.now k) ≡ true) }
-    ensures { (result ≡ pass_sum metal s.now pass) × (result ≤ 30000000000) }
-{
-    let fills = s.len() / 32;
-    let mut sum = 0;
-    let mut i = 0;
-    while i < fills {
-        sum += add_to_pass(metal, s, pass, i);
-        i += 1;
-    }
-    sum
-}
-
-// The pressure of a pass: that of its first fill, since all carry one.
-fn find_pressure(s: &[u8], pass: u8) -> u16
-    requires { (records_in 32 s.now ≤ 60) × ((k : ℕ) → k < records_in 32 s.now → fill_ok (fill_at s.now k) ≡ true) }
-    ensures { (result ≡ pass_pressure s.now pass) × (pressure_ok result ≡ true) }
-{
-    let fills = s.len() / 32;
-    let mut i = 0;
-    while i < fills {
-        if fills::pass_at(s, i) == pass {
-            return fills::pressure_at(s, i);
-        }
-        i += 1;
-    }
-    0
-}
+use factors::{Liquid, Pipe, Places, Prover};
 
 // 'For water F is 320'.
 const WATER_COMPRESSIBILITY: u16 = 320;
@@ -76,47 +33,110 @@ fn correct(pipe: Pipe, pressure: u16, sum: u64) -> u64
     exact::round_or_zero(sum, 1000000000000, cps * cpl)
 }
 
-fn find_pass(prover: Prover, s: &[u8], pass: u8) -> u64
-    requires { fills_fault prover s.now ≡ fine }
-    ensures { (result ≡ pass_volume prover s.now pass) × (result ≤ 30000000000) }
-{
-    let metal = prover.metal;
-    let pipe = prover.pipe;
-    correct(pipe, find_pressure(s, pass), add_up(metal, s, pass))
+// The prover and the records of a draw whose settings and fills are judged: nothing was found in them.
+#[derive(Clone, Copy)]
+pub(crate) struct Judged<'a> {
+    pub(crate) prover: Prover,
+    pub(crate) records: &'a [u8],
+    ghost nothing: { fills_fault prover records.now ≡ fine },
 }
 
-// A round trip: its pass out and its pass back, each rounded before they are added.
-fn find_trip(prover: Prover, s: &[u8], trip: u8) -> u64
-    requires { (fills_fault prover s.now ≡ fine) × (1 ≤ trip) × (trip ≤ 20) }
-    ensures { result ≡ trip_volume prover s.now trip }
-{
-    let out = find_pass(prover, s, 2 * trip - 1);
-    let back = find_pass(prover, s, 2 * trip);
-    out + back
-}
-
-// What the profile repeats, by its number.
-fn find_volume(profile: Profile, prover: Prover, s: &[u8], number: u8) -> u64
-    requires { (fills_fault prover s.now ≡ fine) × (1 ≤ number) × (number ≤ 20) }
-    ensures { result ≡ volume_of profile prover s.now number }
-{
-    match profile {
-        Profile::Unidirectional => find_pass(prover, s, number),
-        Profile::Bidirectional => find_trip(prover, s, number),
+impl Judged<'_> {
+    // There are as many passes as the last fill's number says.
+    pub(crate) fn count_passes(&self) -> u8
+        ensures { result ≡ pass_count self.now.records.now }
+    {
+        let last = Place {
+            records: self.records,
+            i: self.records.len() / 32 - 1,
+        };
+        last.pass()
     }
-}
 
-// The profile's volumes 1 to count, and zeros after them.
-pub(crate) fn collect(profile: Profile, prover: Prover, s: &[u8], count: u8) -> [u64; 20]
-    requires { (fills_fault prover s.now ≡ fine) × (count ≤ 20) }
-    ensures { result ≡ zeros_after 20 (listed (volume_of profile prover s.now) count 1) }
-{
-    let mut volumes = [0u64; 20];
-    let last = count as usize;
-    let mut i = 0;
-    while i < last {
-        volumes[i] = find_volume(profile, prover, s, (i + 1) as u8);
-        i += 1;
+    // What the fill adds to a pass: the volume drawn, if it is a fill of that pass.
+    fn add_to_pass(&self, pass: u8, i: usize) -> u64
+        requires { i < records_in 32 self.now.records.now }
+        ensures { (result ≡ drawn_for self.now.prover.metal self.now.records.now pass i) × (result ≤ 500000000) }
+    {
+        let place = Place {
+            records: self.records,
+            i,
+        };
+        if place.pass() == pass {
+            return fills::work_out(self.prover.metal, place.decode()).drawn;
+        }
+        0
     }
-    volumes
+
+    // The sum of a pass's fills.
+    fn add_up(&self, pass: u8) -> u64
+        ensures { (result ≡ pass_sum self.now.prover.metal self.now.records.now pass) × (result ≤ 30000000000) }
+    {
+        let fills = self.records.len() / 32;
+        let mut sum = 0;
+        for i in 0..fills {
+            sum += self.add_to_pass(pass, i);
+        }
+        sum
+    }
+
+    // The pressure of a pass: that of its first fill, since all carry one.
+    fn find_pressure(&self, pass: u8) -> u16
+        ensures { (result ≡ pass_pressure self.now.records.now pass) × (pressure_ok result ≡ true) }
+    {
+        let fills = self.records.len() / 32;
+        for i in 0..fills {
+            let place = Place {
+                records: self.records,
+                i,
+            };
+            if place.pass() == pass {
+                return place.pressure();
+            }
+        }
+        0
+    }
+
+    fn find_pass(&self, pass: u8) -> u64
+        ensures { (result ≡ pass_volume self.now.prover self.now.records.now pass) × (result ≤ 30000000000) }
+    {
+        correct(
+            self.prover.pipe,
+            self.find_pressure(pass),
+            self.add_up(pass),
+        )
+    }
+
+    // A round trip: its pass out and its pass back, each rounded before they are added.
+    fn find_trip(&self, trip: u8) -> u64
+        requires { (1 ≤ trip) × (trip ≤ 20) }
+        ensures { result ≡ trip_volume self.now.prover self.now.records.now trip }
+    {
+        let out = self.find_pass(2 * trip - 1);
+        let back = self.find_pass(2 * trip);
+        out + back
+    }
+
+    // What the profile repeats, by its number.
+    fn find_volume(&self, profile: Profile, number: u8) -> u64
+        requires { (1 ≤ number) × (number ≤ 20) }
+        ensures { result ≡ volume_of profile self.now.prover self.now.records.now number }
+    {
+        match profile {
+            Profile::Unidirectional => self.find_pass(number),
+            Profile::Bidirectional => self.find_trip(number),
+        }
+    }
+
+    // The profile's volumes 1 to count, and zeros after them.
+    pub(crate) fn collect(&self, profile: Profile, count: u8) -> [u64; 20]
+        requires { count ≤ 20 }
+        ensures { result ≡ zeros_after 20 (listed (volume_of profile self.now.prover self.now.records.now) count 1) }
+    {
+        let mut volumes = [0u64; 20];
+        for i in 0..count as usize {
+            volumes[i] = self.find_volume(profile, (i + 1) as u8);
+        }
+        volumes
+    }
 }

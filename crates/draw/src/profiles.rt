@@ -1,10 +1,10 @@
 // What a draw repeats under each profile (02): passes, or round trips of a pass out and a pass back.
 // Both count from 1.
 ghost use Rattle.std.specs.Prelude.{◌≡◌, ◌≤◌};
-ghost use Rattle.octets.specs.Records.{records_in};
 ghost use Rattle.draw.specs.Profile.{passes_fit, volume_count, first_pass};
 
-use crate::{Profile, judging};
+use crate::Profile;
+use crate::passing::Judged;
 
 // 3 to 20 passes; of round trips an even number, from 6 to 20.
 pub(crate) fn accepts(profile: Profile, passes: u64) -> bool
@@ -17,11 +17,10 @@ pub(crate) fn accepts(profile: Profile, passes: u64) -> bool
 }
 
 // As many as there are passes, or pairs of passes.
-pub(crate) fn count_volumes(profile: Profile, s: &[u8]) -> u8
-    requires { (1 ≤ records_in 32 s.now) × (records_in 32 s.now ≤ 60) }
-    ensures { result ≡ volume_count profile s.now }
+pub(crate) fn count_volumes(profile: Profile, judged: &Judged) -> u8
+    ensures { result ≡ volume_count profile judged.now.records.now }
 {
-    let passes = judging::count_passes(s);
+    let passes = judged.count_passes();
     match profile {
         Profile::Unidirectional => passes,
         Profile::Bidirectional => passes / 2,

@@ -1,13 +1,18 @@
-// Answers' words that the library of lines does not write: those of a bad line, of an entry that only
-// says `ok`, a number with a sign, a single, and a number that may be wanted.
-use lines::answers::{add_bytes, add_numbers};
-
-pub(crate) fn say_bad(out: &mut [u8]) -> usize {
-    words::write_text(b"bad line", out, 0)
-}
+// Answers' words that the library of lines does not write: those of an entry that only says `ok`, a number with a sign
+// and a single; and the answer that may be a refusal.
+use lines::answers::{add_bytes, refuse};
+use refusals::Refusal;
 
 pub(crate) fn say_done(out: &mut [u8]) -> usize {
     words::write_text(b"ok", out, 0)
+}
+
+// How long the answer is that was said, or the refusal's.
+pub(crate) fn or_refuse(said: Result<usize, Refusal>, out: &mut [u8]) -> usize {
+    match said {
+        Ok(length) => length,
+        Err(refusal) => refuse(refusal, out),
+    }
 }
 
 pub(crate) fn add_signed(n: i16, out: &mut [u8], at: usize) -> usize {
@@ -17,29 +22,13 @@ pub(crate) fn add_signed(n: i16, out: &mut [u8], at: usize) -> usize {
 
 // A NaN has many patterns, and no number's: any will do.
 fn bits_of(single: f32) -> u32 {
-    if single != single {
+    if single.is_nan() {
         return 2143289344;
     }
-    f32::to_bits(single)
+    single.to_bits()
 }
 
 // A single as its 32 bits, the most significant first.
 pub(crate) fn add_single(single: f32, out: &mut [u8], at: usize) -> usize {
-    let bits = bits_of(single);
-    let bytes = [
-        (bits / 16777216) as u8,
-        (bits / 65536 % 256) as u8,
-        (bits / 256 % 256) as u8,
-        (bits % 256) as u8,
-    ];
-    add_bytes(&bytes, out, at)
-}
-
-// The number where it is wanted, and nothing where not.
-pub(crate) fn add_wanted(wanted: bool, n: u64, out: &mut [u8], at: usize) -> usize {
-    if wanted {
-        add_numbers(&[n], out, at)
-    } else {
-        at
-    }
+    add_bytes(&bits_of(single).to_be_bytes(), out, at)
 }

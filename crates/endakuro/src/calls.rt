@@ -1,37 +1,33 @@
-// The entries that keep no book: the operands of a line handed to the library, its answer written.
+// The entries that keep no book: the operands of a line handed to the library, its answer written. Each gives
+// how long its answer is, or the refusal to be told.
+use crate::entries::Call;
 use crate::{answers, operands};
-use draw::{Counted, FillAnswer, Profile, WaterDraw};
-use factors::Factor;
-use group::Spread;
-use lines::answers::{add_bytes, add_numbers, refuse, say_ok};
-use live::panel::Panel;
-use live::{Live, Reading};
-use lookup::{Entry, LookUp};
-use moving::Moved;
-use report::{Answer, Factors, Report};
-use run::{Figures, Form, Worked};
-use ticket::{Measured, Ticket};
+use draw::{DrawVolumes, Profile};
+use lines::answers::{add_bytes, add_numbers, say_ok};
+use live::{Reading, Values};
+use lookup::Entry;
+use refusals::Refusal;
+use report::{Factors, Report};
+use run::Form;
+use ticket::Ticket;
 
-fn say_factor(factor: Factor, out: &mut [u8]) -> usize {
-    match factor {
-        Factor::Value(value) => say_ok(&[value as u64], out),
-        Factor::Refused(refusal) => refuse(refusal, out),
-    }
+fn say_factor(factor: Result<u32, Refusal>, out: &mut [u8]) -> Result<usize, Refusal> {
+    Ok(say_ok(&[factor? as u64], out))
 }
 
-fn answer_cts(line: &[u8], out: &mut [u8]) -> usize {
+fn answer_cts(line: &[u8], out: &mut [u8]) -> Result<usize, Refusal> {
     let metal = operands::metal_at(line, 2);
     let places = operands::places_at(line, 4);
     say_factor(factors::cts(operands::i16_at(line, 1), metal, places), out)
 }
 
-fn answer_cps(line: &[u8], out: &mut [u8]) -> usize {
+fn answer_cps(line: &[u8], out: &mut [u8]) -> Result<usize, Refusal> {
     let pipe = operands::pipe_at(line, 2);
     let places = operands::places_at(line, 5);
     say_factor(factors::cps(operands::u16_at(line, 1), pipe, places), out)
 }
 
-fn answer_cpl(line: &[u8], out: &mut [u8]) -> usize {
+fn answer_cpl(line: &[u8], out: &mut [u8]) -> Result<usize, Refusal> {
     let liquid = operands::liquid_at(line, 1);
     say_factor(factors::cpl(liquid, operands::places_at(line, 4)), out)
 }
@@ -55,14 +51,22 @@ fn add_report(report: Report, out: &mut [u8], at: usize) -> usize {
     )
 }
 
-fn say_job(answer: Answer, out: &mut [u8]) -> usize {
-    match answer {
-        Answer::Fields(report) => {
-            let at = answers::say_done(out);
-            add_report(report, out, at)
-        }
-        Answer::Refused(refusal) => refuse(refusal, out),
-    }
+fn say_job(answer: Result<Report, Refusal>, out: &mut [u8]) -> Result<usize, Refusal> {
+    let report = answer?;
+    let at = answers::say_done(out);
+    Ok(add_report(report, out, at))
+}
+
+// `ok` alone, whatever the values are.
+fn say_that_done<T: Copy>(answer: Result<T, Refusal>, out: &mut [u8]) -> Result<usize, Refusal> {
+    answer?;
+    Ok(answers::say_done(out))
+}
+
+// The buffer stands behind a refusal too: it is as it was found.
+fn add_buffer(said: Result<usize, Refusal>, buffer: &[u8], out: &mut [u8]) -> usize {
+    let at = answers::or_refuse(said, out);
+    add_bytes(buffer, out, at)
 }
 
 fn prove_into(form: Form, line: &[u8], records: &[u8], buffer: &mut [u8], out: &mut [u8]) -> usize {
@@ -70,11 +74,11 @@ fn prove_into(form: Form, line: &[u8], records: &[u8], buffer: &mut [u8], out: &
     let request = operands::u32_at(line, 1);
     let k = operands::u32_at(line, 8);
     let limit = operands::u16_at(line, 9);
-    let at = say_job(
+    let said = say_job(
         proving::prove(request, prover, k, limit, form, records, buffer),
         out,
     );
-    add_bytes(buffer, out, at)
+    add_buffer(said, buffer, out)
 }
 
 fn answer_prove(
@@ -85,28 +89,17 @@ fn answer_prove(
     out: &mut [u8],
 ) -> usize {
     let size = hex_words::read_bytes(words::word(line, 10), first);
-    let count = hex_words::read_bytes(words::word(line, 11), second);
-    prove_into(form, line, &second[..count], &mut first[..size], out)
-}
-
-fn say_moved(moved: Moved, out: &mut [u8]) -> usize {
-    match moved {
-        Moved::Records(_) => answers::say_done(out),
-        Moved::Refused(refusal) => refuse(refusal, out),
-    }
+    let records = bytes_at(line, 11, second);
+    prove_into(form, line, records, &mut first[..size], out)
 }
 
 fn move_into(form: Form, records: &[u8], buffer: &mut [u8], out: &mut [u8]) -> usize {
-    match form {
-        Form::Short => {
-            let at = say_moved(moving::forward(records, buffer), out);
-            add_bytes(buffer, out, at)
-        }
-        Form::Long => {
-            let at = say_moved(moving::back(records, buffer), out);
-            add_bytes(buffer, out, at)
-        }
-    }
+    let moved = match form {
+        Form::Short => moving::forward(records, buffer),
+        Form::Long => moving::back(records, buffer),
+    };
+    let said = say_that_done(moved, out);
+    add_buffer(said, buffer, out)
 }
 
 // From the form that is lent to the other.
@@ -118,8 +111,32 @@ fn answer_move(
     out: &mut [u8],
 ) -> usize {
     let size = hex_words::read_bytes(words::word(line, 1), first);
-    let count = hex_words::read_bytes(words::word(line, 2), second);
-    move_into(form, &second[..count], &mut first[..size], out)
+    let records = bytes_at(line, 2, second);
+    move_into(form, records, &mut first[..size], out)
+}
+
+fn factors_at(line: &[u8]) -> Factors {
+    Factors {
+        one: operands::u16_at(line, 4),
+        two: operands::u16_at(line, 5),
+        three: operands::u16_at(line, 6),
+        four: operands::u16_at(line, 7),
+        five: operands::u16_at(line, 8),
+    }
+}
+
+fn write_into(line: &[u8], buffer: &mut [u8], out: &mut [u8]) -> usize {
+    let factors = factors_at(line);
+    let request = operands::u32_at(line, 1);
+    let runs = operands::u8_at(line, 2);
+    let first = operands::u8_at(line, 3);
+    let said = say_that_done(report::write(request, runs, first, factors, buffer), out);
+    add_buffer(said, buffer, out)
+}
+
+fn answer_write(line: &[u8], first: &mut [u8], out: &mut [u8]) -> usize {
+    let size = hex_words::read_bytes(words::word(line, 9), first);
+    write_into(line, &mut first[..size], out)
 }
 
 fn say_runs(form: Form, line: &[u8], records: &[u8], out: &mut [u8]) -> usize {
@@ -130,10 +147,12 @@ fn say_runs(form: Form, line: &[u8], records: &[u8], out: &mut [u8]) -> usize {
     add_bytes(proving::accept(prover, k, limit, form, records), out, at)
 }
 
-fn say_figures(figures: Figures, out: &mut [u8]) -> usize {
+fn say_run(form: Form, line: &[u8], bytes: &[u8], out: &mut [u8]) -> Result<usize, Refusal> {
+    let prover = operands::prover_at(line, 1);
+    let figures = run::show(prover, operands::u32_at(line, 7), form, bytes)?;
     let prover = figures.prover;
     let meter = figures.meter;
-    say_ok(
+    Ok(say_ok(
         &[
             figures.indicated,
             figures.cts,
@@ -147,64 +166,49 @@ fn say_figures(figures: Figures, out: &mut [u8]) -> usize {
             figures.factor,
         ],
         out,
-    )
+    ))
 }
 
-fn say_run(form: Form, line: &[u8], bytes: &[u8], out: &mut [u8]) -> usize {
-    let prover = operands::prover_at(line, 1);
-    let worked = run::show(prover, operands::u32_at(line, 7), form, bytes);
-    match worked {
-        Worked::Figures(figures) => say_figures(figures, out),
-        Worked::Refused(refusal) => refuse(refusal, out),
-    }
+fn say_draw(
+    profile: Profile,
+    line: &[u8],
+    records: &[u8],
+    out: &mut [u8],
+) -> Result<usize, Refusal> {
+    let volume = draw::draw(profile, operands::prover_at(line, 1), records)?;
+    Ok(say_ok(&[volume.base, volume.barrels, volume.first as u64], out))
 }
 
-fn say_draw(profile: Profile, line: &[u8], records: &[u8], out: &mut [u8]) -> usize {
-    let drawn = draw::draw(profile, operands::prover_at(line, 1), records);
-    match drawn {
-        WaterDraw::Drawn(volume) => {
-            say_ok(&[volume.base, volume.barrels, volume.first as u64], out)
-        }
-        WaterDraw::Refused(refusal) => refuse(refusal, out),
-    }
+fn say_fill(line: &[u8], bytes: &[u8], out: &mut [u8]) -> Result<usize, Refusal> {
+    let fill = draw::fill(operands::metal_at(line, 1), bytes)?;
+    Ok(say_ok(
+        &[
+            fill.adjusted,
+            fill.measure,
+            fill.prover,
+            fill.ccts,
+            fill.drawn,
+        ],
+        out,
+    ))
 }
 
-fn say_fill(line: &[u8], bytes: &[u8], out: &mut [u8]) -> usize {
-    let filled = draw::fill(operands::metal_at(line, 1), bytes);
-    match filled {
-        FillAnswer::Figures(fill) => say_ok(
-            &[
-                fill.adjusted,
-                fill.measure,
-                fill.prover,
-                fill.ccts,
-                fill.drawn,
-            ],
-            out,
-        ),
-        FillAnswer::Refused(refusal) => refuse(refusal, out),
-    }
-}
-
-fn say_volumes(volumes: [u64; 20], count: u8, out: &mut [u8]) -> usize {
-    let shown = count as usize;
-    let mut at = say_ok(&[count as u64], out);
-    let mut i = 0;
-    while i < 20 {
-        at = answers::add_wanted(i < shown, volumes[i], out, at);
-        i += 1;
+fn say_volumes(found: DrawVolumes, out: &mut [u8]) -> usize {
+    let mut at = say_ok(&[found.count as u64], out);
+    for &volume in found.volumes.iter().take(found.count as usize) {
+        at = add_numbers(&[volume], out, at);
     }
     at
 }
 
-fn list_volumes(profile: Profile, line: &[u8], records: &[u8], out: &mut [u8]) -> usize {
-    let found = draw::volumes(profile, operands::prover_at(line, 1), records);
-    let answer = found.answer;
-    let volumes = found.volumes;
-    match answer {
-        Counted::Volumes(count) => say_volumes(volumes, count, out),
-        Counted::Refused(refusal) => refuse(refusal, out),
-    }
+fn list_volumes(
+    profile: Profile,
+    line: &[u8],
+    records: &[u8],
+    out: &mut [u8],
+) -> Result<usize, Refusal> {
+    let found = draw::volumes(profile, operands::prover_at(line, 1), records)?;
+    Ok(say_volumes(found, out))
 }
 
 fn ticket_at(line: &[u8]) -> Ticket {
@@ -219,35 +223,26 @@ fn ticket_at(line: &[u8]) -> Ticket {
     }
 }
 
-fn answer_ticket(line: &[u8], out: &mut [u8]) -> usize {
-    let measured = ticket::work_out(ticket_at(line));
-    match measured {
-        Measured::Worked(volumes) => say_ok(
-            &[
-                volumes.factor as u64,
-                volumes.gross as u64,
-                volumes.net as u64,
-            ],
-            out,
-        ),
-        Measured::Refused(refusal) => refuse(refusal, out),
-    }
+fn answer_ticket(line: &[u8], out: &mut [u8]) -> Result<usize, Refusal> {
+    let volumes = ticket::work_out(ticket_at(line))?;
+    Ok(say_ok(
+        &[
+            volumes.factor as u64,
+            volumes.gross as u64,
+            volumes.net as u64,
+        ],
+        out,
+    ))
 }
 
-fn say_live(tenths: i16, psi: u16, out: &mut [u8]) -> usize {
+fn say_reading(live: Result<Values, Refusal>, out: &mut [u8]) -> Result<usize, Refusal> {
+    let values = live?;
     let at = answers::say_done(out);
-    let next = answers::add_signed(tenths, out, at);
-    add_numbers(&[psi as u64], out, next)
+    let next = answers::add_signed(values.tenths, out, at);
+    Ok(add_numbers(&[values.psi as u64], out, next))
 }
 
-fn say_reading(live: Live, out: &mut [u8]) -> usize {
-    match live {
-        Live::Whole { tenths, psi } => say_live(tenths, psi, out),
-        Live::Refused(refusal) => refuse(refusal, out),
-    }
-}
-
-fn answer_live(line: &[u8], out: &mut [u8]) -> usize {
+fn answer_live(line: &[u8], out: &mut [u8]) -> Result<usize, Refusal> {
     let reading = Reading {
         temperature: operands::single_at(line, 1),
         pressure: operands::single_at(line, 2),
@@ -255,73 +250,33 @@ fn answer_live(line: &[u8], out: &mut [u8]) -> usize {
     say_reading(live::convert(reading), out)
 }
 
-fn answer_channels(line: &[u8], out: &mut [u8]) -> usize {
+fn answer_channels(line: &[u8], out: &mut [u8]) -> Result<usize, Refusal> {
     let temperature = operands::channel_at(line, 1);
     let pressure = operands::channel_at(line, 3);
     say_reading(live::channels::convert(temperature, pressure), out)
 }
 
-fn say_shown(panel: Panel, out: &mut [u8]) -> usize {
-    match panel {
-        Panel::Shows(single) => {
-            let at = answers::say_done(out);
-            answers::add_single(single, out, at)
-        }
-        Panel::Refused(refusal) => refuse(refusal, out),
-    }
+fn say_shown(panel: Result<f32, Refusal>, out: &mut [u8]) -> Result<usize, Refusal> {
+    let single = panel?;
+    let at = answers::say_done(out);
+    Ok(answers::add_single(single, out, at))
 }
 
-fn answer_panel_temperature(line: &[u8], out: &mut [u8]) -> usize {
+fn answer_panel_temperature(line: &[u8], out: &mut [u8]) -> Result<usize, Refusal> {
     say_shown(
         live::panel::show_temperature(operands::i16_at(line, 1)),
         out,
     )
 }
 
-fn answer_panel_pressure(line: &[u8], out: &mut [u8]) -> usize {
+fn answer_panel_pressure(line: &[u8], out: &mut [u8]) -> Result<usize, Refusal> {
     say_shown(live::panel::show_pressure(operands::u16_at(line, 1)), out)
 }
 
-fn factors_at(line: &[u8]) -> Factors {
-    Factors {
-        one: operands::u16_at(line, 4),
-        two: operands::u16_at(line, 5),
-        three: operands::u16_at(line, 6),
-        four: operands::u16_at(line, 7),
-        five: operands::u16_at(line, 8),
-    }
-}
-
-fn say_written(answer: Answer, out: &mut [u8]) -> usize {
-    match answer {
-        Answer::Fields(_) => answers::say_done(out),
-        Answer::Refused(refusal) => refuse(refusal, out),
-    }
-}
-
-fn write_into(line: &[u8], buffer: &mut [u8], out: &mut [u8]) -> usize {
-    let factors = factors_at(line);
-    let request = operands::u32_at(line, 1);
-    let runs = operands::u8_at(line, 2);
-    let first = operands::u8_at(line, 3);
-    let at = say_written(report::write(request, runs, first, factors, buffer), out);
-    add_bytes(buffer, out, at)
-}
-
-fn answer_write(line: &[u8], first: &mut [u8], out: &mut [u8]) -> usize {
-    let size = hex_words::read_bytes(words::word(line, 9), first);
-    write_into(line, &mut first[..size], out)
-}
-
-fn say_read(bytes: &[u8], out: &mut [u8]) -> usize {
-    let answer = report::read(bytes);
-    match answer {
-        Answer::Fields(report) => {
-            let at = say_ok(&[report.number as u64], out);
-            add_report(report, out, at)
-        }
-        Answer::Refused(refusal) => refuse(refusal, out),
-    }
+fn say_read(bytes: &[u8], out: &mut [u8]) -> Result<usize, Refusal> {
+    let report = report::read(bytes)?;
+    let at = say_ok(&[report.number as u64], out);
+    Ok(add_report(report, out, at))
 }
 
 fn say_entry(entry: Entry, out: &mut [u8]) -> usize {
@@ -334,95 +289,64 @@ fn say_entry(entry: Entry, out: &mut [u8]) -> usize {
     )
 }
 
-fn look_up(line: &[u8], table: &[u8], out: &mut [u8]) -> usize {
+fn look_up(line: &[u8], table: &[u8], out: &mut [u8]) -> Result<usize, Refusal> {
     let gravity = operands::u16_at(line, 2);
-    let found = lookup::look_up(operands::i16_at(line, 1), gravity, table);
-    match found {
-        LookUp::Found(entry) => say_entry(entry, out),
-        LookUp::Refused(refusal) => refuse(refusal, out),
-    }
+    let entry = lookup::look_up(operands::i16_at(line, 1), gravity, table)?;
+    Ok(say_entry(entry, out))
 }
 
-// The entries whose last operand is lent records, or one.
-fn answer_records(entry: usize, line: &[u8], records: &[u8], out: &mut [u8]) -> usize {
-    match entry {
-        13 => say_runs(Form::Short, line, records, out),
-        14 => say_runs(Form::Long, line, records, out),
-        15 => say_run(Form::Short, line, records, out),
-        16 => say_run(Form::Long, line, records, out),
-        17 => say_read(records, out),
-        18 => say_draw(Profile::Unidirectional, line, records, out),
-        19 => say_fill(line, records, out),
-        20 => list_volumes(Profile::Unidirectional, line, records, out),
-        21 => say_draw(Profile::Bidirectional, line, records, out),
-        22 => list_volumes(Profile::Bidirectional, line, records, out),
-        _ => look_up(line, records, out),
-    }
-}
-
-fn find_last(count: usize) -> usize {
-    if count == 0 { 0 } else { count - 1 }
-}
-
-fn answer_lent(entry: usize, line: &[u8], room: &mut [u8], out: &mut [u8]) -> usize {
-    let last = find_last(words::count_words(line));
-    let count = hex_words::read_bytes(words::word(line, last), room);
-    answer_records(entry, line, &room[..count], out)
-}
-
-fn say_spread(values: &[u64], out: &mut [u8]) -> usize {
-    let found = group::find_spread(values);
-    match found {
-        Spread::Worked(extent) => say_ok(&[extent.smallest, extent.largest, extent.spread], out),
-        Spread::Refused(refusal) => refuse(refusal, out),
-    }
+// How many operands a line has.
+fn count_operands(line: &[u8]) -> usize {
+    words::count_words(line).saturating_sub(1)
 }
 
 // As many values as the line has operands: at most 20, by its form.
-fn answer_spread(line: &[u8], out: &mut [u8]) -> usize {
+fn answer_spread(line: &[u8], out: &mut [u8]) -> Result<usize, Refusal> {
     let mut values = [0u64; 20];
-    let mut i = 0;
-    while i < 20 {
+    let count = count_operands(line).min(20);
+    for i in 0..count {
         values[i] = operands::u64_at(line, i + 1);
-        i += 1;
     }
-    let count = find_last(words::count_words(line));
-    if count <= 20 {
-        return say_spread(&values[..count], out);
-    }
-    answers::say_bad(out)
+    let extent = group::find_spread(&values[..count])?;
+    Ok(say_ok(&[extent.smallest, extent.largest, extent.spread], out))
 }
 
-fn answer_numbers(entry: usize, line: &[u8], out: &mut [u8]) -> usize {
-    match entry {
-        24 => answer_cts(line, out),
-        25 => answer_cps(line, out),
-        26 => answer_cpl(line, out),
-        27 => answer_ticket(line, out),
-        28 => answer_live(line, out),
-        29 => answer_spread(line, out),
-        30 => answer_panel_temperature(line, out),
-        31 => answer_panel_pressure(line, out),
-        32 => answer_channels(line, out),
-        _ => answers::say_bad(out),
-    }
+// The bytes that a word spells, in the room lent for them.
+fn bytes_at<'a>(line: &[u8], n: usize, room: &'a mut [u8]) -> &'a [u8] {
+    let count = hex_words::read_bytes(words::word(line, n), room);
+    &room[..count]
 }
 
-// By the entry's place in the table.
+fn last_bytes<'a>(line: &[u8], room: &'a mut [u8]) -> &'a [u8] {
+    bytes_at(line, count_operands(line), room)
+}
+
 pub(crate) fn answer(
-    entry: usize,
+    call: Call,
     line: &[u8],
     first: &mut [u8],
     second: &mut [u8],
     out: &mut [u8],
-) -> usize {
-    match entry {
-        8 => answer_prove(Form::Short, line, first, second, out),
-        9 => answer_prove(Form::Long, line, first, second, out),
-        10 => answer_move(Form::Short, line, first, second, out),
-        11 => answer_move(Form::Long, line, first, second, out),
-        12 => answer_write(line, first, out),
-        13..=23 => answer_lent(entry, line, first, out),
-        _ => answer_numbers(entry, line, out),
+) -> Result<usize, Refusal> {
+    match call {
+        Call::Prove(form) => Ok(answer_prove(form, line, first, second, out)),
+        Call::Move(form) => Ok(answer_move(form, line, first, second, out)),
+        Call::Write => Ok(answer_write(line, first, out)),
+        Call::Runs(form) => Ok(say_runs(form, line, last_bytes(line, first), out)),
+        Call::Run(form) => say_run(form, line, last_bytes(line, first), out),
+        Call::Read => say_read(last_bytes(line, first), out),
+        Call::Draw(profile) => say_draw(profile, line, last_bytes(line, first), out),
+        Call::Volumes(profile) => list_volumes(profile, line, last_bytes(line, first), out),
+        Call::Fill => say_fill(line, last_bytes(line, first), out),
+        Call::LookUp => look_up(line, last_bytes(line, first), out),
+        Call::Cts => answer_cts(line, out),
+        Call::Cps => answer_cps(line, out),
+        Call::Cpl => answer_cpl(line, out),
+        Call::Ticket => answer_ticket(line, out),
+        Call::Live => answer_live(line, out),
+        Call::Channels => answer_channels(line, out),
+        Call::Spread => answer_spread(line, out),
+        Call::PanelTemperature => answer_panel_temperature(line, out),
+        Call::PanelPressure => answer_panel_pressure(line, out),
     }
 }

@@ -1,122 +1,92 @@
 // The entries of the kept book: it goes in by value, and comes back with the place after the answer.
 ghost use Rattle.std.specs.Prelude.{◌<◌};
 
+use crate::entries::Keeping;
 use crate::{answers, operands};
-use book::{Book, Change, Changed, Commons, Figures, Handout, Line};
-use lines::answers::{add_numbers, refuse, say_ok};
+use book::{Book, Changed, Figures, Handed, Line};
+use lines::answers::{add_numbers, say_ok};
 use refusals::Refusal;
 
-// The book as it is kept on, and how many bytes of `out` are the answer.
+// The book as it is kept on, and how many bytes of `out` are the answer, or the refusal to be told.
 #[derive(Drop)]
 pub(crate) struct Answered {
     pub(crate) book: Book,
-    pub(crate) length: usize,
+    pub(crate) said: Result<usize, Refusal>,
 }
 
-fn say_change(done: Changed, out: &mut [u8]) -> Answered {
-    let book = done.book;
-    let answer = done.answer;
-    let length = match answer {
-        Change::Made => answers::say_done(out),
-        Change::Refused(refusal) => refuse(refusal, out),
-    };
-    Answered { book, length }
+fn say_change(answer: Result<(), Refusal>, out: &mut [u8]) -> Result<usize, Refusal> {
+    answer?;
+    Ok(answers::say_done(out))
+}
+
+fn change(done: Changed, out: &mut [u8]) -> Answered {
+    Answered {
+        book: done.book,
+        said: say_change(done.answer, out),
+    }
 }
 
 fn answer_request(line: &[u8], kept: Book, out: &mut [u8]) -> Answered {
-    say_change(
+    change(
         book::request(kept, operands::u8_at(line, 1), operands::u32_at(line, 2)),
         out,
     )
 }
 
 fn answer_withdraw(line: &[u8], kept: Book, out: &mut [u8]) -> Answered {
-    say_change(
+    change(
         book::withdraw(kept, operands::u8_at(line, 1), operands::u32_at(line, 2)),
         out,
     )
 }
 
-fn say_handout(answer: Handout, out: &mut [u8]) -> usize {
-    match answer {
-        Handout::Handed(shipper, number) => say_ok(&[shipper as u64, number as u64], out),
-        Handout::Refused(refusal) => refuse(refusal, out),
-    }
+fn say_handout(answer: Result<Handed, Refusal>, out: &mut [u8]) -> Result<usize, Refusal> {
+    let handed = answer?;
+    Ok(say_ok(&[handed.shipper as u64, handed.number as u64], out))
 }
 
 fn answer_take(kept: Book, out: &mut [u8]) -> Answered {
     let done = book::take(kept);
-    let book = done.book;
-    let answer = done.answer;
     Answered {
-        book,
-        length: say_handout(answer, out),
+        book: done.book,
+        said: say_handout(done.answer, out),
     }
 }
 
-fn widen(n: u32) -> u64 {
-    n as u64
-}
-
-fn widen_byte(n: u8) -> u64 {
-    n as u64
-}
-
-// A shipper's count and its waiting numbers, as they stand behind one another.
-fn add_waiting(line: Line, out: &mut [u8], from: usize) -> usize {
-    let numbers = line.numbers;
-    let count = line.count;
-    let mut at = add_numbers(&[count as u64], out, from);
-    let mut i = 0;
-    while i < 16 {
-        at = answers::add_wanted(i < count, widen(numbers[i]), out, at);
-        i += 1;
+// A shipper's count and its waiting numbers, at most sixteen, as they stand behind one another.
+fn add_waiting(line: &Line, out: &mut [u8], from: usize) -> usize {
+    let mut at = add_numbers(&[line.count as u64], out, from);
+    for number in &line.numbers[..line.count.min(16)] {
+        at = add_numbers(&[*number as u64], out, at);
     }
     at
 }
 
-fn say_book(kept: Book, out: &mut [u8]) -> usize {
-    if !book::is_sound(kept) {
-        return refuse(Refusal::BookNotSound, out);
-    }
+fn say_book(kept: Book, out: &mut [u8]) -> Result<usize, Refusal> {
+    refusals::demand(book::is_sound(kept), Refusal::BookNotSound)?;
     let mut at = say_ok(&[kept.last as u64], out);
-    let mut shipper = 0;
-    while shipper < 4 {
-        at = add_waiting(kept.lines[shipper], out, at);
-        shipper += 1;
+    for line in &kept.lines {
+        at = add_waiting(line, out, at);
+    }
+    Ok(at)
+}
+
+// One figure for each shipper.
+fn add_four(figures: [u8; 4], out: &mut [u8], from: usize) -> usize {
+    let mut at = from;
+    for figure in &figures {
+        at = add_numbers(&[*figure as u64], out, at);
     }
     at
 }
 
 // R0 R1 R2 R3 T0 T1 T2 T3 COMMONS COMMONSUSED
-fn add_figures(figures: Figures, commons: u64, used: u64, out: &mut [u8]) -> usize {
-    let reserves = figures.reserves;
-    let ceilings = figures.ceilings;
-    say_ok(
-        &[
-            widen_byte(reserves[0]),
-            widen_byte(reserves[1]),
-            widen_byte(reserves[2]),
-            widen_byte(reserves[3]),
-            widen_byte(ceilings[0]),
-            widen_byte(ceilings[1]),
-            widen_byte(ceilings[2]),
-            widen_byte(ceilings[3]),
-            commons,
-            used,
-        ],
-        out,
-    )
-}
-
-fn say_figures(kept: Book, out: &mut [u8]) -> usize {
-    let told = book::tell_commons(kept);
-    match told {
-        Commons::Shared(commons, used) => {
-            add_figures(kept.figures, commons as u64, used as u64, out)
-        }
-        Commons::Refused(refusal) => refuse(refusal, out),
-    }
+fn say_figures(kept: Book, out: &mut [u8]) -> Result<usize, Refusal> {
+    let shared = book::tell_commons(kept)?;
+    let start = answers::say_done(out);
+    let reserves = add_four(kept.figures.reserves, out, start);
+    let ceilings = add_four(kept.figures.ceilings, out, reserves);
+    Ok(add_numbers(&[shared.commons as u64, shared.used as u64], out, ceilings))
 }
 
 // The figures of shippers 0 to 3, of one kind.
@@ -141,7 +111,7 @@ fn figures_at(line: &[u8], from: usize) -> Figures
 }
 
 fn answer_set(line: &[u8], kept: Book, out: &mut [u8]) -> Answered {
-    say_change(book::set_figures(kept, figures_at(line, 1)), out)
+    change(book::set_figures(kept, figures_at(line, 1)), out)
 }
 
 // A shipper's sixteen places, from word 14 on, and its count, from word 2 on.
@@ -150,22 +120,21 @@ fn line_at(line: &[u8], shipper: usize) -> Line
 {
     let mut numbers = [0u32; 16];
     let from = 14 + 16 * shipper;
-    let mut i = 0;
-    while i < 16 {
+    for i in 0..16 {
         numbers[i] = operands::u32_at(line, from + i);
-        i += 1;
     }
     let count = operands::u8_at(line, 2 + shipper) as usize;
     Line { numbers, count }
 }
 
 fn book_at(line: &[u8]) -> Book {
-    let first = line_at(line, 0);
-    let second = line_at(line, 1);
-    let third = line_at(line, 2);
-    let fourth = line_at(line, 3);
     Book {
-        lines: [first, second, third, fourth],
+        lines: [
+            line_at(line, 0),
+            line_at(line, 1),
+            line_at(line, 2),
+            line_at(line, 3),
+        ],
         last: operands::u8_at(line, 1),
         figures: figures_at(line, 6),
     }
@@ -174,26 +143,25 @@ fn book_at(line: &[u8]) -> Book {
 fn replace(given: Book, out: &mut [u8]) -> Answered {
     Answered {
         book: given,
-        length: answers::say_done(out),
+        said: Ok(answers::say_done(out)),
     }
 }
 
-// By the entry's place in the table.
-pub(crate) fn answer(entry: usize, line: &[u8], kept: Book, out: &mut [u8]) -> Answered {
+pub(crate) fn answer(entry: Keeping, line: &[u8], kept: Book, out: &mut [u8]) -> Answered {
     match entry {
-        0 => answer_request(line, kept, out),
-        1 => answer_withdraw(line, kept, out),
-        2 => answer_take(kept, out),
-        3 => replace(book_at(line), out),
-        4 => replace(Book::empty(), out),
-        5 => Answered {
+        Keeping::Request => answer_request(line, kept, out),
+        Keeping::Withdraw => answer_withdraw(line, kept, out),
+        Keeping::Take => answer_take(kept, out),
+        Keeping::Load => replace(book_at(line), out),
+        Keeping::Empty => replace(Book::empty(), out),
+        Keeping::Book => Answered {
             book: kept,
-            length: say_book(kept, out),
+            said: say_book(kept, out),
         },
-        6 => answer_set(line, kept, out),
-        _ => Answered {
+        Keeping::Set => answer_set(line, kept, out),
+        Keeping::Figures => Answered {
             book: kept,
-            length: say_figures(kept, out),
+            said: say_figures(kept, out),
         },
     }
 }

@@ -2,9 +2,11 @@
 // book, whatever the length of the input.
 #![tactic(auto)]
 
-ghost use Rattle.std.specs.Prelude.{◌≡◌, ◌<◌, length};
+ghost use Rattle.std.specs.Prelude.{◌≡◌, length};
 
 use book::Book;
+use entries::Entry;
+use input::{Held, Present};
 use std::io::{self, Read, Write};
 
 mod answers;
@@ -23,8 +25,8 @@ fn say(out: &[u8], count: usize, writer: &mut impl Write) -> io::Result<()> {
     Ok(())
 }
 
-// The line without its end, answered by the entry that it names; an empty line and one that starts with
-// `#` give no answer. `first` and `second` are room for the bytes that its operands spell.
+// The line answered by the entry that it names; an empty line and one that starts with `#` give no answer.
+// `first` and `second` are room for the bytes that its operands spell.
 fn answer_line(
     line: &[u8],
     kept: Book,
@@ -36,21 +38,29 @@ fn answer_line(
     if input::is_silent(line) {
         return Ok(kept);
     }
-    let entry = entries::find_entry(line);
-    if entry < 8 {
-        let answered = keeping::answer(entry, line, kept, out);
-        say(out, answered.length, writer)?;
-        let book = answered.book;
-        return Ok(book);
+    match entries::find_entry(line) {
+        Some(Entry::Kept(entry)) => {
+            let answered = keeping::answer(entry, line, kept, out);
+            let length = answers::or_refuse(answered.said, out);
+            say(out, length, writer)?;
+            Ok(answered.book)
+        }
+        Some(Entry::Called(call)) => {
+            let said = calls::answer(call, line, first, second, out);
+            let length = answers::or_refuse(said, out);
+            say(out, length, writer)?;
+            Ok(kept)
+        }
+        None => {
+            writer.write_all(b"bad line\n")?;
+            Ok(kept)
+        }
     }
-    let length = calls::answer(entry, line, first, second, out);
-    say(out, length, writer)?;
-    Ok(kept)
 }
 
 // Answers the line that is held, once it is whole.
 fn answer(
-    held: input::Held,
+    held: Held,
     line: &[u8],
     kept: Book,
     first: &mut [u8],
@@ -58,23 +68,18 @@ fn answer(
     out: &mut [u8],
     writer: &mut impl Write,
 ) -> io::Result<Book> {
-    if input::is_too_long(held, line) {
-        writer.write_all(b"bad line\n")?;
-        return Ok(kept);
+    match input::held_line(held, line) {
+        Present::Part => Ok(kept),
+        Present::TooLong => {
+            writer.write_all(b"bad line\n")?;
+            Ok(kept)
+        }
+        Present::Whole(line) => answer_line(line, kept, first, second, out, writer),
     }
-    let count = input::count_line(held, line);
-    answer_line(&line[0..count], kept, first, second, out, writer)
 }
 
-fn count_down(turns: u64, ended: bool) -> u64
-    requires { 0 < turns }
-    ensures { result < turns }
-{
-    if ended { 0 } else { turns - 1 }
-}
-
-// A proved loop has to end, and nothing says that the input does: so the steps are counted down, from
-// a number that no run uses up.
+// A proved loop has to end, and nothing says that the input does: so the steps are counted, up to a number
+// that no run uses up.
 // A read or a write that fails ends the program with its error.
 fn serve(
     reader: &mut impl Read,
@@ -87,49 +92,40 @@ fn serve(
 ) -> io::Result<()> {
     let mut book = Book::empty();
     let mut held = input::hold_nothing();
-    let mut turns = u64::MAX;
-    while turns > 0 {
+    for _ in 0..u64::MAX {
         held = input::go_on(held, reader, chunk, line)?;
         book = answer(held, line, book, first, second, out, writer)?;
-        turns = count_down(turns, held.ended);
+        if input::is_last(held) {
+            return Ok(());
+        }
     }
     Ok(())
 }
 
 // Room for what one read brings.
-fn chunk_room() -> [u8; 65536]
-    ensures { 65536 ≡ length result }
-{
-    [0; 65536]
-}
+const CHUNK: usize = 65536;
 
 // Room for the longest line.
-fn line_room() -> [u8; 1048576]
-    ensures { 1048576 ≡ length result }
-{
-    [0; 1048576]
-}
+const LINE: usize = 1048576;
 
 // Room for the bytes that a line can spell.
-fn bytes_room() -> [u8; 524288]
-    ensures { 524288 ≡ length result }
-{
-    [0; 524288]
-}
+const BYTES: usize = 524288;
 
 // Room for the longest answer: a line's bytes again, behind other values.
-fn answer_room() -> [u8; 1049600]
-    ensures { 1049600 ≡ length result }
+const ANSWER: usize = 1049600;
+
+fn room<const N: usize>() -> [u8; N]
+    ensures { length result ≡ N }
 {
-    [0; 1049600]
+    [0; N]
 }
 
 fn main(rt: HostRuntime) -> io::Result<()> {
-    let mut chunk = chunk_room();
-    let mut line = line_room();
-    let mut first = bytes_room();
-    let mut second = bytes_room();
-    let mut out = answer_room();
+    let mut chunk = room::<CHUNK>();
+    let mut line = room::<LINE>();
+    let mut first = room::<BYTES>();
+    let mut second = room::<BYTES>();
+    let mut out = room::<ANSWER>();
     serve(
         &mut rt.stdin(),
         &mut rt.stdout(),

@@ -5,40 +5,31 @@ ghost use Rattle.std.specs.Prelude.{◌≤◌};
 use factors::{Liquid, Metal, Pipe, Places, Prover};
 use lines::operands::number_at;
 use live::channels::Channel;
-use numerals::Signed;
 
 pub(crate) fn u8_at(line: &[u8], n: usize) -> u8 {
-    let value = number_at(line, n, 255);
-    if value <= 255 { value as u8 } else { 0 }
+    u8::try_from(number_at(line, n, u8::MAX as u64)).unwrap_or(0)
 }
 
 pub(crate) fn u16_at(line: &[u8], n: usize) -> u16 {
-    let value = number_at(line, n, 65535);
-    if value <= 65535 { value as u16 } else { 0 }
+    u16::try_from(number_at(line, n, u16::MAX as u64)).unwrap_or(0)
 }
 
 pub(crate) fn u32_at(line: &[u8], n: usize) -> u32 {
-    let value = number_at(line, n, 4294967295);
-    if value <= 4294967295 { value as u32 } else { 0 }
+    u32::try_from(number_at(line, n, u32::MAX as u64)).unwrap_or(0)
 }
 
 pub(crate) fn u64_at(line: &[u8], n: usize) -> u64 {
-    number_at(line, n, 18446744073709551615)
+    number_at(line, n, u64::MAX)
 }
 
 pub(crate) fn i16_at(line: &[u8], n: usize) -> i16 {
-    let signed = numerals::read_signed(words::word(line, n));
-    match signed {
-        Signed::Value(value) => value,
-        Signed::Malformed => 0,
-    }
+    numerals::read_signed(words::word(line, n)).unwrap_or(0)
 }
 
 pub(crate) fn places_at(line: &[u8], n: usize) -> Places {
-    if check::same(words::word(line, n), b"6") {
-        Places::Six
-    } else {
-        Places::Four
+    match words::word(line, n) {
+        b"6" => Places::Six,
+        _ => Places::Four,
     }
 }
 
@@ -46,35 +37,32 @@ pub(crate) fn single_at(line: &[u8], n: usize) -> f32 {
     live::channels::from_bits(hex_words::read_single(words::word(line, n)))
 }
 
-// The place of a word among as many as are known, or their count.
-pub(crate) fn find_word(word: &[u8], known: &[u8], count: usize) -> usize {
-    let mut i = 0;
-    while i < count {
-        if check::same(word, words::word(known, i)) {
-            return i;
-        }
-        i += 1;
-    }
-    count
+#[derive(Clone, Copy)]
+pub(crate) enum Kind {
+    Fahrenheit,
+    Celsius,
+    Pressure,
+    Fault,
 }
 
-// 4 where the word names no kind of channel.
-pub(crate) fn kind_at(line: &[u8], n: usize) -> usize {
-    find_word(
-        words::word(line, n),
-        b"fahrenheit celsius pressure fault",
-        4,
-    )
+pub(crate) fn kind_at(line: &[u8], n: usize) -> Option<Kind> {
+    match words::word(line, n) {
+        b"fahrenheit" => Some(Kind::Fahrenheit),
+        b"celsius" => Some(Kind::Celsius),
+        b"pressure" => Some(Kind::Pressure),
+        b"fault" => Some(Kind::Fault),
+        _ => None,
+    }
 }
 
 pub(crate) fn channel_at(line: &[u8], n: usize) -> Channel
     requires { n ≤ 8 }
 {
     match kind_at(line, n) {
-        0 => Channel::Fahrenheit(single_at(line, n + 1)),
-        1 => Channel::Celsius(single_at(line, n + 1)),
-        2 => Channel::Pressure(single_at(line, n + 1)),
-        _ => Channel::Fault(u8_at(line, n + 1)),
+        Some(Kind::Fahrenheit) => Channel::Fahrenheit(single_at(line, n + 1)),
+        Some(Kind::Celsius) => Channel::Celsius(single_at(line, n + 1)),
+        Some(Kind::Pressure) => Channel::Pressure(single_at(line, n + 1)),
+        Some(Kind::Fault) | None => Channel::Fault(u8_at(line, n + 1)),
     }
 }
 

@@ -2,7 +2,7 @@
 // machine division, else by hand in base 2^32. Only `divide`'s promise is known outside this file.
 ghost use Rattle.std.specs.Prelude.{◌≡◌, ◌+◌, ◌*◌, ◌^◌, ◌<◌, ◌≤◌};
 
-use crate::BASE;
+use crate::{BASE, Wide};
 
 // A quotient and what is left.
 #[derive(Clone, Copy)]
@@ -16,7 +16,7 @@ fn scale_of(d: u64) -> u64
     requires { 0 < d }
     ensures { (2 ^ 63 ≤ d * result) × (d * result < 2 ^ 64) }
 {
-    1u64 << u64::leading_zeros(d)
+    1u64 << d.leading_zeros()
 }
 
 // The digit and its rest, from an estimate that is too large: `lack` is what the dividend lacks of
@@ -58,16 +58,16 @@ fn take_digit(rest: u64, digit: u64, d: u64) -> Divided
     correct(estimate, asked - kept, d)
 }
 
-// (hi * 2^64 + lo) / d and its rest, digit by digit: dividend and divisor are scaled, the lower word gives its
+// n / d and its rest, digit by digit: dividend and divisor are scaled, the lower word gives its
 // two digits, and the rest is scaled back.
-fn divide_two_words(hi: u64, lo: u64, d: u64) -> Divided
-    requires { hi < d }
-    ensures { (result.quotient * d + result.rest ≡ hi * 2 ^ 64 + lo) × (result.rest < d) }
+fn divide_two_words(n: Wide, d: u64) -> Divided
+    requires { n.hi < d }
+    ensures { (result.quotient * d + result.rest ≡ n.hi * 2 ^ 64 + n.lo) × (result.rest < d) }
 {
     let scale = scale_of(d);
     let divisor = d * scale;
-    let low = crate::product(lo, scale);
-    let first = take_digit(hi * scale + low.hi, low.lo / BASE, divisor);
+    let low = crate::product(n.lo, scale);
+    let first = take_digit(n.hi * scale + low.hi, low.lo / BASE, divisor);
     let second = take_digit(first.rest, low.lo % BASE, divisor);
     Divided {
         quotient: first.quotient * BASE + second.quotient,
@@ -75,16 +75,16 @@ fn divide_two_words(hi: u64, lo: u64, d: u64) -> Divided
     }
 }
 
-// (hi * 2^64 + lo) / d and its rest, where the quotient fits a word.
-pub(crate) fn divide(hi: u64, lo: u64, d: u64) -> Divided
-    requires { hi < d }
-    ensures { (result.quotient * d + result.rest ≡ hi * 2 ^ 64 + lo) × (result.rest < d) }
+// n / d and its rest, where the quotient fits a word.
+pub(crate) fn divide(n: Wide, d: u64) -> Divided
+    requires { n.hi < d }
+    ensures { (result.quotient * d + result.rest ≡ n.hi * 2 ^ 64 + n.lo) × (result.rest < d) }
 {
-    if hi == 0 {
+    if n.hi == 0 {
         return Divided {
-            quotient: lo / d,
-            rest: lo % d,
+            quotient: n.lo / d,
+            rest: n.lo % d,
         };
     }
-    divide_two_words(hi, lo, d)
+    divide_two_words(n, d)
 }

@@ -10,25 +10,26 @@ mod divider;
 mod multiplier;
 
 // A word is worked in two digits of 32 bits, as by hand.
-const BASE: u64 = 4294967296;
+const BASE: u64 = 1 << 32;
 
-// A number of two words: hi * 2^64 + lo.
-#[derive(Clone, Copy)]
+// A number of two words: hi * 2^64 + lo, and not a `u128`, since 01's lowest layer is of 64-bit numbers. The upper
+// word comes first, so that the derived order is that of the numbers.
+#[derive(Clone, Copy, PartialEq, Eq, PartialOrd, Ord)]
 pub struct Wide {
     pub hi: u64,
     pub lo: u64,
 }
 
-// A rounded quotient, or why there is none.
+// Why there is no rounded quotient.
 #[derive(Clone, Copy)]
-pub enum Quotient {
-    Value(u64),
+pub enum QuotientError {
     ZeroDivisor,
     // the rounded quotient has more than 64 bits
     TooLarge,
 }
 
 // The whole product.
+#[tactic(auto, unfolding(crate::specs::Words::wide_of))]
 pub fn product(a: u64, b: u64) -> Wide
     ensures { result ≡ wide_of (a * b) }
 {
@@ -39,22 +40,15 @@ pub fn product(a: u64, b: u64) -> Wide
 }
 
 // One value more. A caller adds fewer than 2^64 values, so that the upper word has room.
+#[tactic(auto, unfolding(crate::specs::Words::value_of))]
 fn add(sum: Wide, x: u64) -> Wide
     requires { sum.hi + 1 < 2 ^ 64 }
     ensures { (value_of result ≡ value_of sum + x) × (result.hi ≤ sum.hi + 1) }
 {
-    // what the lower word still holds
-    let room = 18446744073709551615 - sum.lo;
-    if x <= room {
-        Wide {
-            hi: sum.hi,
-            lo: sum.lo + x,
-        }
-    } else {
-        Wide {
-            hi: sum.hi + 1,
-            lo: x - room - 1,
-        }
+    let (lo, carries) = sum.lo.overflowing_add(x);
+    Wide {
+        hi: sum.hi + carries as u64,
+        lo,
     }
 }
 
@@ -63,62 +57,50 @@ pub fn sum(values: &[u64]) -> Wide
     ensures { result ≡ wide_of (sum_of values.now) }
 {
     let mut sum = Wide { hi: 0, lo: 0 };
-    let mut i = 0;
-    while i < values.len() {
-        sum = add(sum, values[i]);
-        i += 1;
+    for x in values {
+        sum = add(sum, *x);
     }
     sum
 }
 
 // a ≤ b, of numbers of two words.
+#[tactic(auto, using(std::proofs::lemmas::Bool::Decides::nat_tests), unfolding(crate::specs::Words::value_of))]
 pub fn is_at_most(a: Wide, b: Wide) -> bool
     ensures { result ≡ leb (value_of a) (value_of b) }
 {
-    if a.hi == b.hi {
-        a.lo <= b.lo
-    } else {
-        a.hi < b.hi
-    }
+    a <= b
 }
 
 // n / d to the nearest whole number, halves up.
-pub fn rounded_quotient(n: Wide, d: u64) -> Quotient
+pub fn rounded_quotient(n: Wide, d: u64) -> Result<u64, QuotientError>
     ensures { result ≡ quotient_of (value_of n) d }
 {
     if d == 0 {
-        return Quotient::ZeroDivisor;
+        return Err(QuotientError::ZeroDivisor);
     }
-    let hi = n.hi;
-    if d <= hi {
-        return Quotient::TooLarge;
+    if d <= n.hi {
+        return Err(QuotientError::TooLarge);
     }
-    let whole = divider::divide(hi, n.lo, d);
+    let whole = divider::divide(n, d);
     if whole.rest < d - whole.rest {
-        return Quotient::Value(whole.quotient);
+        return Ok(whole.quotient);
     }
-    if whole.quotient == 18446744073709551615 {
-        return Quotient::TooLarge;
-    }
-    Quotient::Value(whole.quotient + 1)
+    whole.quotient.checked_add(1).ok_or(QuotientError::TooLarge)
 }
 
 // a * b / d to the nearest whole number, halves up: all multiplying comes before the division.
-pub fn rounded_ratio(a: u64, b: u64, d: u64) -> Quotient
+#[tactic(auto, using(crate::proofs::Words::value_wide))]
+pub fn rounded_ratio(a: u64, b: u64, d: u64) -> Result<u64, QuotientError>
     ensures { result ≡ quotient_of (a * b) d }
 {
     rounded_quotient(product(a, b), d)
 }
 
 // The quotient's value, and 0 where there is none: for a caller whose magnitudes rule that out.
-pub fn value_or_zero(quotient: Quotient) -> u64
+pub fn value_or_zero(quotient: Result<u64, QuotientError>) -> u64
     ensures { result ≡ value_or_zero quotient }
 {
-    match quotient {
-        Quotient::Value(q) => q,
-        Quotient::ZeroDivisor => 0,
-        Quotient::TooLarge => 0,
-    }
+    quotient.unwrap_or(0)
 }
 
 // a * b / d to the nearest whole number, and 0 where there is none: for a caller whose magnitudes

@@ -25,6 +25,7 @@ fn add_up(a: u64, b: u64) -> Columns
     Columns { low, middle, next }
 }
 
+#[tactic(auto, using(crate::proofs::Columns::upper_word))]
 pub(crate) fn upper_word(a: u64, b: u64) -> u64
     ensures { result ≡ a * b / 2 ^ 64 }
 {
@@ -32,6 +33,7 @@ pub(crate) fn upper_word(a: u64, b: u64) -> u64
     a / BASE * (b / BASE) + columns.middle / BASE + columns.next / BASE
 }
 
+#[tactic(auto, using(crate::proofs::Columns::lower_word))]
 pub(crate) fn lower_word(a: u64, b: u64) -> u64
     ensures { result ≡ a * b % 2 ^ 64 }
 {

@@ -1,8 +1,9 @@
 -- The combined factor by two products of two factors and one division.
+use Rattle.std.specs.Prelude.{Ok, Err}
 use mathlib.Core.Path.{◌≡◌, refl, sym, ap, ◌∙◌}
 use mathlib.Core.Bool.{Bool, true, false, cond}
 use mathlib.Core.List.{List, [], ◌∷◌}
-use Prim.Native.Nat.{ℕ, zero, suc, ◌*◌, ◌^◌, ◌<◌, ◌≤◌}
+use Prim.Native.Nat.{ℕ, ◌*◌, ◌^◌, ◌<◌, ◌≤◌}
 use native.Mathlib.Nat.{mul-one, one-mul, mul_assoc, mul-le-mul, pow-zero, pow-suc}
 use native.Mathlib.Omega.{arith}
 use borrow.Author.Tests.{le-leb, lt-leb, lt-ltb, ne_eqb}
@@ -10,20 +11,13 @@ use lib.Dec.{ltb}
 use lib.ListN.{length, get_or}
 use Rattle.exact.specs.Rounding.{rounded_div, rounded, ◌over◌}
 use Rattle.exact.specs.Quotient.{quotient_of}
-use Rattle.exact.specs.declared.Quotient.{Quotient}
-use Rattle.exact.specs.declared.Quotient.TheVariants.{Value as Quotient-as-Value, ZeroDivisor, TooLarge as Quotient-as-TooLarge}
+use Rattle.exact.proofs.Answers.{with_error}
 use Rattle.exact.proofs.Rounding.{cancelled, rounded_only}
 use Rattle.factors.specs.Fractions.{product_of, combined}
 use Rattle.factors.specs.Rounded.{combined_at}
 use Rattle.factors.specs.Answers.{held, combined_of}
-use Rattle.factors.specs.declared.Combined.{Combined}
-use Rattle.factors.specs.declared.Combined.TheVariants.{Value, TooMany, TooLarge}
-
--- an element that is there, whatever stands for one that is not
-pub there : (xs : List ℕ) (i a b : ℕ) → i < length xs → get_or xs i a ≡ get_or xs i b
-there [] i a b h = absurd (omega arith)
-there (x ∷ xs) zero a b h = refl
-there (x ∷ xs) (suc i) a b h = there xs i a b (omega arith)
+use Rattle.factors.specs.declared.CombineError.TheVariants.{TooMany, TooLarge}
+use Rattle.exact.specs.declared.QuotientError.TheVariants as quotient
 
 pub by_pairs : (fs : List ℕ) → length fs ≤ 4 → product_of fs ≡ get_or fs 0 1 * get_or fs 1 1 * (get_or fs 2 1 * get_or fs 3 1)
 by_pairs [] h = refl
@@ -33,25 +27,21 @@ by_pairs (a ∷ b ∷ c ∷ []) h = simp (mul-one, mul_assoc)
 by_pairs (a ∷ b ∷ c ∷ d ∷ []) h = simp (mul-one, mul_assoc)
 by_pairs (a ∷ b ∷ c ∷ d ∷ e ∷ fs) h = absurd (omega arith)
 
--- a rounded quotient as a combined factor
-abbrev pub held_by : Quotient → Combined
-held_by (Quotient-as-Value q) = Value q
-held_by ZeroDivisor = TooLarge
-held_by Quotient-as-TooLarge = TooLarge
-
-small_held : {n : ℕ} → n < 2 ^ 64 → held n ≡ Value n
+small_held : {n : ℕ} → n < 2 ^ 64 → held n ≡ Ok n
 unfolding held
 small_held {n} h = rw (lt-ltb n (2 ^ 64) h)
 
-quotient_held : (n : ℕ) {d : ℕ} → 0 < d → held_by (quotient_of n d) ≡ held (rounded_div n d)
+quotient_held : (n : ℕ) {d : ℕ} → 0 < d → with_error TooLarge (quotient_of n d) ≡ held (rounded_div n d)
 unfolding quotient_of held
-quotient_held n {d} h = ap (λ (b : Bool). held_by (cond b ZeroDivisor (cond (ltb (rounded_div n d) (2 ^ 64)) (Quotient-as-Value (rounded_div n d)) Quotient-as-TooLarge))) (ne_eqb d 0 (λ z. omega arith)) ∙ by (ltb (rounded_div n d) (2 ^ 64)) (rounded_div n d)
+quotient_held n {d} h =
+    let q = rounded_div n d in
+    ap (λ (b : Bool). with_error TooLarge (cond b (Err quotient.ZeroDivisor) (cond (ltb q (2 ^ 64)) (Ok q) (Err quotient.TooLarge)))) (ne_eqb d 0 (λ z. omega arith)) ∙ by (ltb q (2 ^ 64)) q
   where
-    by : (b : Bool) (q : ℕ) → held_by (cond b (Quotient-as-Value q) Quotient-as-TooLarge) ≡ cond b (Value q) TooLarge
+    by : (b : Bool) (q : ℕ) → with_error TooLarge (cond b (Ok q) (Err quotient.TooLarge)) ≡ cond b (Ok q) (Err TooLarge)
     by true q = refl
     by false q = refl
 
-pub too_many : (d : ℕ) (fs : List ℕ) → 4 < length fs → TooMany ≡ combined_of d fs
+pub too_many : (d : ℕ) (fs : List ℕ) → 4 < length fs → (Err TooMany) ≡ combined_of d fs
 unfolding combined_of
 too_many d fs h = rw (lt-leb (length fs) 4 h)
 
@@ -60,7 +50,7 @@ unfolding combined_of
 few_enough d fs h = rw (le-leb (length fs) 4 h)
 
 -- no factor at all is one
-pub none_combined : (d : ℕ) (fs : List ℕ) → length fs ≡ 0 → 10 ^ d < 2 ^ 64 → Value (10 ^ d) ≡ combined_of d fs
+pub none_combined : (d : ℕ) (fs : List ℕ) → length fs ≡ 0 → 10 ^ d < 2 ^ 64 → Ok (10 ^ d) ≡ combined_of d fs
 unfolding combined_at combined
 none_combined d [] none small =
     let one : rounded d (1 over (10 ^ d) ^ 0) ≡ 10 ^ d = ap (λ (m : ℕ). rounded d (1 over m)) (pow-zero (10 ^ d)) ∙ rounded_only d 1 1 (record { low = omega arith; high = omega arith }) in
@@ -68,7 +58,7 @@ none_combined d [] none small =
 none_combined d (f ∷ fs) none small = absurd (omega arith)
 
 -- one division of the product, with the units that all but one of the factors bring
-pub by_division : (d : ℕ) (fs : List ℕ) (units : ℕ) → length fs ≤ 4 → units * 10 ^ d ≡ (10 ^ d) ^ length fs → 0 < units → 0 < 10 ^ d → held_by (quotient_of (get_or fs 0 1 * get_or fs 1 1 * (get_or fs 2 1 * get_or fs 3 1)) units) ≡ combined_of d fs
+pub by_division : (d : ℕ) (fs : List ℕ) (units : ℕ) → length fs ≤ 4 → units * 10 ^ d ≡ (10 ^ d) ^ length fs → 0 < units → 0 < 10 ^ d → with_error TooLarge (quotient_of (get_or fs 0 1 * get_or fs 1 1 * (get_or fs 2 1 * get_or fs 3 1)) units) ≡ combined_of d fs
 unfolding combined_at combined rounded
 by_division d fs units few scaled some one =
     quotient_held (get_or fs 0 1 * get_or fs 1 1 * (get_or fs 2 1 * get_or fs 3 1)) some

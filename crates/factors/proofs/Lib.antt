@@ -1,4 +1,5 @@
 pub mod Laws
+pub mod Demands
 pub mod Squeezed
 pub mod Combining
 pub mod Steel

@@ -1,5 +1,6 @@
 -- What callers that have judged the ranges need: each factor is its formula's value, and it is small.
-use mathlib.Core.Path.{◌≡◌, ap, ◌∙◌}
+use Rattle.std.specs.Prelude.{Result, Ok, Err}
+use mathlib.Core.Path.{◌≡◌, ◌∙◌}
 use mathlib.Core.Bool.{true}
 use mathlib.Core.List.{List}
 use Prim.Native.Nat.{ℕ, ◌*◌, ◌^◌, ◌<◌, ◌≤◌}
@@ -9,7 +10,7 @@ use borrow.Author.Tests.{le-leb, lt-ltb}
 use lib.IntN.{ℤ}
 use lib.ListN.{length}
 use Rattle.refusals.specs.Told.{done}
-use Rattle.refusals.proofs.Laws.{judged_fine, demand_holds, or_else_next, done_one, refusal_one, refused_number, refused_record}
+use Rattle.refusals.proofs.Laws.{judged_fine, demand_holds, or_else_next, done_one}
 use Rattle.ranges.specs.Table.{temperature_ok, coefficient_ok, pressure_ok}
 use Rattle.ranges.proofs.Laws.{within_high}
 use Rattle.ranges.proofs.Counted.{warm}
@@ -21,29 +22,23 @@ use Rattle.factors.specs.Fractions.{product_of, cts, cps, cpl, combined}
 use Rattle.factors.specs.Prover.{pipe_ok}
 use Rattle.factors.specs.Liquid.{liquid_ok, cpl_from}
 use Rattle.factors.specs.Rounded.{cts_at, cps_at, cpl_at, combined_at}
-use Rattle.factors.specs.Answers.{told, value_or_zero, cts_of, cps_of, cpl_of, combined_of, combined_or_zero, held}
+use Rattle.factors.specs.Answers.{cts_of, cps_of, cpl_of, combined_of, held}
 use Rattle.factors.specs.declared.Liquid.{Liquid}
 use Rattle.factors.specs.declared.Metal.{Metal}
 use Rattle.factors.specs.declared.Pipe.{Pipe}
 use Rattle.factors.specs.declared.Places.{Places}
-use Rattle.factors.specs.declared.Factor.{Factor}
-use Rattle.factors.specs.declared.Factor.TheVariants.{Value, Refused}
 use Rattle.factors.proofs.Laws.{rounded_at_most_two}
 use Rattle.factors.proofs.Squeezed.{squeezed_little}
 use Rattle.factors.proofs.Steel.{parts, Loads, loads}
+use Rattle.refusals.specs.declared.Refusal.{Refusal}
+use Rattle.refusals.specs.Answered.{told}
+use Rattle.exact.specs.Quotient.{value_or_zero}
 
-pub told_value : (f : Factor) {v : ℕ} → told f ≡ done v → value_or_zero f ≡ v
-told_value (Value x) is = done_one is
-told_value (Refused why) is = let z : ◌≡◌ {A = ℕ} 0 1 = cc in absurd (omega arith)
+pub told_value : (f : Result ℕ Refusal) {v : ℕ} → told f ≡ done v → value_or_zero f ≡ v
+told_value (Ok x) is = done_one is
+told_value (Err why) is = let z : ◌≡◌ {A = ℕ} 0 1 = cc in absurd (omega arith)
 
--- `told` loses nothing
-pub told_one : (a b : Factor) → told a ≡ told b → a ≡ b
-told_one (Value x) (Value y) is = ap Value (done_one is)
-told_one (Value x) (Refused why) is = cc
-told_one (Refused why) (Value x) is = cc
-told_one (Refused why) (Refused other) is = ap Refused (refusal_one why other (refused_number {A = ℕ} is) (refused_record {A = ℕ} is))
-
-module _ (f : Factor) (places : Places) where
+module _ (f : Result ℕ Refusal) (places : Places) where
   pub cts_value : (metal : Metal) (t : ℤ) → told f ≡ cts_of (digits places) metal t → metal_ok metal ≡ true → temperature_ok t ≡ true → value_or_zero f ≡ cts_at (digits places) metal t
   unfolding cts_of
   cts_value metal t is m ok = told_value f (is ∙ judged_fine _ (or_else_next _ (demand_holds 3 m) ∙ demand_holds 5 ok))
@@ -79,6 +74,6 @@ unfolding combined_at combined rounded
 combined_small d fs k some le =
     at_most (product_of fs * 10 ^ d) (k * 10 ^ d) some (le_trans (mul-le-mul_right (10 ^ d) le) (le_of_eq (mul_right_comm k ((10 ^ d) ^ length fs) (10 ^ d))))
 
-pub combined_value : (d : ℕ) (fs : List ℕ) → length fs ≤ 4 → combined_at d fs < 2 ^ 64 → combined_or_zero (combined_of d fs) ≡ combined_at d fs
+pub combined_value : (d : ℕ) (fs : List ℕ) → length fs ≤ 4 → combined_at d fs < 2 ^ 64 → value_or_zero (combined_of d fs) ≡ combined_at d fs
 unfolding combined_of held
 combined_value d fs few small = rw (le-leb (length fs) 4 few, lt-ltb (combined_at d fs) (2 ^ 64) small)

@@ -1,7 +1,6 @@
 -- What each entry answers, by the paper: 3 for a metal or pipe figure out of range, then 5 for a temperature, a pressure (below Pe too) or F.
-use Rattle.std.specs.Prelude.{cond, List, ℕ, ◌^◌, leb, ltb, ℤ, length}
-use Rattle.refusals.specs.Table.{number_of, record_of}
-use Rattle.refusals.specs.Told.{Told, done, refused, demand, or_else, judged}
+use Rattle.std.specs.Prelude.{cond, List, ℕ, ◌^◌, leb, ltb, ℤ, length, Result, Ok, Err}
+use Rattle.refusals.specs.Told.{Told, demand, or_else, judged}
 use Rattle.ranges.specs.Table.{temperature_ok, pressure_ok}
 use Rattle.factors.specs.Metal.{metal_ok}
 use Rattle.factors.specs.Prover.{pipe_ok}
@@ -10,20 +9,8 @@ use Rattle.factors.specs.Rounded.{cts_at, cps_at, cpl_at, combined_at}
 use Rattle.factors.specs.declared.Metal.{Metal}
 use Rattle.factors.specs.declared.Pipe.{Pipe}
 use Rattle.factors.specs.declared.Liquid.{Liquid}
-use Rattle.factors.specs.declared.Factor.{Factor}
-use Rattle.factors.specs.declared.Factor.TheVariants.{Value, Refused}
-use Rattle.factors.specs.declared.Combined.{Combined}
-use Rattle.factors.specs.declared.Combined.TheVariants.{Value as Held, TooMany, TooLarge}
-
--- a factor's value, or the paper's number and record
-abbrev pub told : Factor → Told ℕ
-told (Value factor) = done factor
-told (Refused refusal) = refused (number_of refusal) (record_of refusal)
-
--- a factor's value, and 0 where there is none
-abbrev pub value_or_zero : Factor → ℕ
-value_or_zero (Value factor) = factor
-value_or_zero (Refused refusal) = 0
+use Rattle.factors.specs.declared.CombineError.TheVariants.{TooMany, TooLarge}
+use Rattle.factors.specs.declared.CombineError.{CombineError}
 
 -- CTS to d places
 unfoldable pub cts_of : ℕ → Metal → ℤ → Told ℕ
@@ -38,15 +25,9 @@ unfoldable pub cpl_of : ℕ → Liquid → Told ℕ
 cpl_of d liquid = judged (demand (liquid_ok liquid) 5) (cpl_at d liquid)
 
 -- a number as a combined factor, where a word holds it
-unfoldable pub held : ℕ → Combined
-held n = cond (ltb n (2 ^ 64)) (Held n) TooLarge
+unfoldable pub held : ℕ → Result ℕ CombineError
+held n = cond (ltb n (2 ^ 64)) (Ok n) (Err TooLarge)
 
 -- the combined factor to d places, of up to four factors
-unfoldable pub combined_of : ℕ → List ℕ → Combined
-combined_of d fs = cond (leb (length fs) 4) (held (combined_at d fs)) TooMany
-
--- a combined factor's value, and 0 where there is none
-abbrev pub combined_or_zero : Combined → ℕ
-combined_or_zero (Held factor) = factor
-combined_or_zero TooMany = 0
-combined_or_zero TooLarge = 0
+unfoldable pub combined_of : ℕ → List ℕ → Result ℕ CombineError
+combined_of d fs = cond (leb (length fs) 4) (held (combined_at d fs)) (Err TooMany)

@@ -8,9 +8,10 @@ ghost use Rattle.factors.specs.Metal.{coefficient_of, metal_ok, metal_by};
 ghost use Rattle.factors.specs.Prover.{pipe_ok, prover_ok};
 ghost use Rattle.factors.specs.Liquid.{liquid_ok};
 ghost use Rattle.factors.specs.Places.{digits};
-ghost use Rattle.factors.specs.Answers.{told, value_or_zero, cts_of, cps_of, cpl_of, combined_of, combined_or_zero};
+ghost use Rattle.factors.specs.Answers.{cts_of, cps_of, cpl_of, combined_of};
+ghost use Rattle.refusals.specs.Answered.{told};
+ghost use Rattle.exact.specs.Quotient.{value_or_zero};
 
-use exact::Quotient;
 use refusals::Refusal;
 
 // The prover's metal: one of the four named, or a certified cubical coefficient in 10^-7 per °F. A
@@ -57,15 +58,9 @@ pub enum Places {
     Six,
 }
 
+// Why there is no combined factor.
 #[derive(Clone, Copy)]
-pub enum Factor {
-    Value(u32),
-    Refused(Refusal),
-}
-
-#[derive(Clone, Copy)]
-pub enum Combined {
-    Value(u64),
+pub enum CombineError {
     // more than four factors
     TooMany,
     // the combined factor has more than 64 bits
@@ -92,7 +87,9 @@ pub fn is_metal(metal: Metal) -> bool
     ranges::is_coefficient(coefficient(metal) as u64)
 }
 
-// The metal that a caller's two numbers name: a code and a certified coefficient, 0 where there is none.
+// The metal that a caller's two numbers name, as C passes them: a code and a certified coefficient, 0 where there
+// is none.
+#[tactic(auto, using(std::proofs::lemmas::Bool::Decides::nat_tests), unfolding(crate::specs::Metal::named, crate::specs::Metal::metal_by))]
 pub fn choose_metal(code: u8, certified: u16) -> Metal
     ensures { result ≡ metal_by code certified }
 {
@@ -123,9 +120,7 @@ pub fn is_pipe(pipe: Pipe) -> bool
 pub fn is_prover(prover: Prover) -> bool
     ensures { result ≡ prover_ok prover }
 {
-    let metal = prover.metal;
-    let pipe = prover.pipe;
-    is_metal(metal) & (is_pipe(pipe) & ranges::is_volume(prover.base as u64))
+    is_metal(prover.metal) & (is_pipe(prover.pipe) & ranges::is_volume(prover.base as u64))
 }
 
 // The liquid's pressure is in range and not below its equilibrium pressure, and its compressibility is in range.
@@ -148,79 +143,59 @@ fn unit(places: Places) -> u64
 }
 
 // A fraction that is at most 2, rounded.
-fn round(num: u64, den: u64, places: Places) -> Factor
+fn round(num: u64, den: u64, places: Places) -> u32
     requires { (0 < den) × (num ≤ 2 * den) }
-    ensures { result ≡ Factor.Value (rounded (digits places) (num over den)) }
+    ensures { result ≡ rounded (digits places) (num over den) }
 {
-    Factor::Value(exact::round_or_zero(num, unit(places), den) as u32)
+    exact::round_or_zero(num, unit(places), den) as u32
 }
 
 // The correction for the effect of temperature on steel, T in 0.1 °F.
-pub fn cts(t: i16, metal: Metal, places: Places) -> Factor
+pub fn cts(t: i16, metal: Metal, places: Places) -> Result<u32, Refusal>
     ensures { told result ≡ cts_of (digits places) metal t }
 {
-    if is_metal(metal) {
-        if ranges::is_temperature(t) {
-            let gc = coefficient(metal) as u64;
-            // counted from -100.0 °F, so that no step is below zero
-            let above = (t + 1000) as u64;
-            return round(100000000 + above * gc - 1600 * gc, 100000000, places);
-        }
-        return Factor::Refused(Refusal::RecordField(0));
-    }
-    Factor::Refused(Refusal::ProverSetting)
+    refusals::demand(is_metal(metal), Refusal::ProverSetting)?;
+    refusals::demand(ranges::is_temperature(t), Refusal::RecordField(0))?;
+    let gc = coefficient(metal) as u64;
+    // counted from -100.0 °F, so that no step is below zero
+    let above = (t + 1000) as u64;
+    Ok(round(100000000 + above * gc - 1600 * gc, 100000000, places))
 }
 
 // The correction for the effect of pressure on steel, P in psi gage.
-pub fn cps(p: u16, pipe: Pipe, places: Places) -> Factor
+pub fn cps(p: u16, pipe: Pipe, places: Places) -> Result<u32, Refusal>
     ensures { told result ≡ cps_of (digits places) pipe p }
 {
-    if is_pipe(pipe) {
-        let pressure = p as u64;
-        if ranges::is_pressure(pressure) {
-            let stiffness = pipe.modulus as u64 * pipe.wall as u64;
-            return round(
-                stiffness + pressure * pipe.diameter as u64,
-                stiffness,
-                places,
-            );
-        }
-        return Factor::Refused(Refusal::RecordField(0));
-    }
-    Factor::Refused(Refusal::ProverSetting)
+    refusals::demand(is_pipe(pipe), Refusal::ProverSetting)?;
+    let pressure = p as u64;
+    refusals::demand(ranges::is_pressure(pressure), Refusal::RecordField(0))?;
+    let stiffness = pipe.modulus as u64 * pipe.wall as u64;
+    let loaded = stiffness + pressure * pipe.diameter as u64;
+    Ok(round(loaded, stiffness, places))
 }
 
 // The correction for the effect of pressure on liquid.
-pub fn cpl(liquid: Liquid, places: Places) -> Factor
+pub fn cpl(liquid: Liquid, places: Places) -> Result<u32, Refusal>
     ensures { told result ≡ cpl_of (digits places) liquid }
 {
-    if is_liquid(liquid) {
-        let above = liquid.pressure - liquid.equilibrium;
-        let squeezed = liquid.compressibility as u64 * above as u64;
-        return round(100000000, 100000000 - squeezed, places);
-    }
-    Factor::Refused(Refusal::RecordField(0))
+    refusals::demand(is_liquid(liquid), Refusal::RecordField(0))?;
+    let above = liquid.pressure - liquid.equilibrium;
+    let squeezed = liquid.compressibility as u64 * above as u64;
+    Ok(round(100000000, 100000000 - squeezed, places))
 }
 
 // The factor, and 0 where there is none: for a caller that has judged the ranges.
-pub fn value_or_zero(factor: Factor) -> u32
+pub fn value_or_zero(factor: Result<u32, Refusal>) -> u32
     ensures { result ≡ value_or_zero factor }
 {
-    match factor {
-        Factor::Value(value) => value,
-        Factor::Refused(_) => 0,
-    }
+    factor.unwrap_or(0)
 }
 
 // The factor at a place of the list, and one past its end.
 fn factor_at(factors: &[u32], i: usize) -> u64
     ensures { (result ≡ get_or factors.now i 1) × (result < 2 ^ 32) }
 {
-    if i < factors.len() {
-        factors[i] as u64
-    } else {
-        1
-    }
+    factors.get(i).copied().unwrap_or(1) as u64
 }
 
 // What the product of so many factors is counted in, against the unit of one: 10^(places * (count - 1)).
@@ -229,46 +204,37 @@ fn units_above_one(places: Places, count: usize) -> u64
     ensures { (result * 10 ^ digits places ≡ (10 ^ digits places) ^ count) × (0 < result) }
 {
     let one = unit(places);
-    if count <= 1 {
-        1
-    } else if count == 2 {
-        one
-    } else if count == 3 {
-        one * one
-    } else {
-        one * one * one
+    // multiplied out, since `pow` would count the factors by a loop
+    match count {
+        1 => 1,
+        2 => one,
+        3 => one * one,
+        _ => one * one * one,
     }
 }
 
 // The combined factor: the exact product of the rounded factors, then one rounding.
-pub fn combine(factors: &[u32], places: Places) -> Combined
+pub fn combine(factors: &[u32], places: Places) -> Result<u64, CombineError>
     ensures { result ≡ combined_of (digits places) factors.now }
 {
     let count = factors.len();
     if 4 < count {
-        return Combined::TooMany;
+        return Err(CombineError::TooMany);
     }
     if count == 0 {
-        return Combined::Value(unit(places));
+        return Ok(unit(places));
     }
     let first = factor_at(factors, 0) * factor_at(factors, 1);
     let second = factor_at(factors, 2) * factor_at(factors, 3);
     let quotient = exact::rounded_ratio(first, second, units_above_one(places, count));
-    match quotient {
-        Quotient::Value(value) => Combined::Value(value),
-        // no count of units is zero
-        Quotient::ZeroDivisor => Combined::TooLarge,
-        Quotient::TooLarge => Combined::TooLarge,
-    }
+    // no count of units is zero
+    quotient.map_err(|_| CombineError::TooLarge)
 }
 
-// The combined factor, and 0 where there is none: for a caller whose magnitudes rule that out.
-pub fn combined_or_zero(combined: Combined) -> u64
-    ensures { result ≡ combined_or_zero combined }
+// The combined factor, and 0 where there is none: for a caller whose magnitudes rule that out. It stands beside
+// `value_or_zero`, since each is promised by its name.
+pub fn combined_or_zero(combined: Result<u64, CombineError>) -> u64
+    ensures { result ≡ value_or_zero combined }
 {
-    match combined {
-        Combined::Value(value) => value,
-        Combined::TooMany => 0,
-        Combined::TooLarge => 0,
-    }
+    combined.unwrap_or(0)
 }

@@ -1,11 +1,8 @@
 -- 01, 'Proving' and 'Water draw': when consecutive values qualify, and which group of them is the first. Once for any number n of
 -- values and any limit: five runs with limit 5, three passes with limit 2.
-use Rattle.std.specs.Prelude.{Bool, ◌&&◌, List, [], ◌∷◌, ℕ, ◌+◌, ◌*◌, ◌-◌, min, max, leb, length, take, drop}
-use Rattle.std.proofs.Math.Option.{Option, none, some}
+use Rattle.std.specs.Prelude.{Bool, ◌&&◌, List, [], ◌∷◌, ℕ, ◌+◌, ◌*◌, ◌-◌, min, max, leb, length, take, drop, Some, None, Option}
 use Rattle.refusals.specs.Told.{Told, done, refused}
 use Rattle.octets.specs.FirstToLast.{first_place}
-use Rattle.group.specs.declared.Group.{Group}
-use Rattle.group.specs.declared.Group.TheVariants.{At, Nothing}
 
 -- 'smallest'; 0 of no values
 unfoldable pub smallest : List ℕ → ℕ
@@ -34,12 +31,7 @@ qualifies_at limit n xs at = qualifies limit (group_at n xs at)
 unfoldable pub first_group : ℕ → ℕ → List ℕ → Option ℕ
 first_group limit n xs = first_place (qualifies_at limit n xs) (length xs + 1 - n) 0
 
--- what the answer tells: the place of the group's first value, or that there is no group
-abbrev pub place_of : Group → Option ℕ
-place_of (At at) = some at
-place_of Nothing = none
-
 -- 9: 'no qualifying group'; otherwise what follows from the place of its first value
 abbrev pub nine_unless : {A : Type 0} → Option ℕ → (ℕ → A) → Told A
-nine_unless none follows = refused 9 0
-nine_unless (some at) follows = done (follows at)
+nine_unless None follows = refused 9 0
+nine_unless (Some at) follows = done (follows at)

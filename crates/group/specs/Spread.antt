@@ -1,13 +1,10 @@
 -- The spread of a group as people work it out: (largest - smallest) as a percentage of the smallest, in 0.001 %, which is a fraction at
 -- 5 places.
 use Rattle.std.specs.Prelude.{Bool, ◌&&◌, List, ℕ, ◌-◌, ◌^◌, leb, ltb}
-use Rattle.refusals.specs.Table.{number_of, record_of}
-use Rattle.refusals.specs.Told.{Told, done, refused, demand, judged}
+use Rattle.refusals.specs.Told.{Told, demand, judged}
 use Rattle.exact.specs.Rounding.{rounded, ◌over◌}
 use Rattle.group.specs.Repeatability.{smallest, largest}
 use Rattle.group.specs.declared.Extent.{Extent}
-use Rattle.group.specs.declared.Spread.{Spread}
-use Rattle.group.specs.declared.Spread.TheVariants.{Worked, Refused}
 
 unfoldable pub spread_in : List ℕ → ℕ
 spread_in xs = rounded 5 (largest xs - smallest xs over smallest xs)
@@ -19,7 +16,3 @@ has_spread xs = leb 1 (smallest xs) && ltb (spread_in xs) (2 ^ 64)
 -- the smallest, the largest and the spread, or 9
 unfoldable pub spread_of : List ℕ → Told Extent
 spread_of xs = judged (demand (has_spread xs) 9) (record { smallest = smallest xs; largest = largest xs; spread = spread_in xs })
-
-abbrev pub told_spread : Spread → Told Extent
-told_spread (Worked extent) = done extent
-told_spread (Refused refusal) = refused (number_of refusal) (record_of refusal)

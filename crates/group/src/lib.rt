@@ -3,20 +3,13 @@
 // 64 bits, it is carried in two words.
 #![tactic(auto)]
 
-ghost use Rattle.std.specs.Prelude.{◌≡◌, ◌<◌, min, max, length};
+ghost use Rattle.std.specs.Prelude.{◌≡◌, ◌<◌, length, MatchOption};
 ghost use Rattle.group.specs.Mean.{mean_of};
-ghost use Rattle.group.specs.Spread.{told_spread, spread_of};
-ghost use Rattle.group.specs.Repeatability.{smallest, largest, qualifies, first_group, place_of};
+ghost use Rattle.group.specs.Spread.{spread_of};
+ghost use Rattle.group.specs.Repeatability.{smallest, largest, qualifies, first_group};
+ghost use Rattle.refusals.specs.Answered.{told};
 
-use exact::Quotient;
 use refusals::Refusal;
-
-// The first qualifying group, by the place of its first value, from 0; or that there is none.
-#[derive(Clone, Copy)]
-pub enum Group {
-    At(usize),
-    Nothing,
-}
 
 // The smallest and the largest value, and their spread in 0.001 % of the smallest.
 #[derive(Clone, Copy)]
@@ -27,80 +20,49 @@ pub struct Extent {
 }
 
 #[derive(Clone, Copy)]
-pub enum Spread {
-    Worked(Extent),
-    Refused(Refusal),
-}
-
-#[derive(Clone, Copy)]
 struct Extremes {
     smallest: u64,
     largest: u64,
 }
 
-fn lesser(a: u64, b: u64) -> u64
-    ensures { result ≡ min a b }
+// The ends of the values lent; of no values there are none.
+fn find_extremes(values: &[u64]) -> Option<Extremes>
+    ensures { MatchOption result (length values.now ≡ 0) (λ ends. (0 < length values.now) × (ends.smallest ≡ smallest values.now) × (ends.largest ≡ largest values.now)) }
 {
-    if a < b { a } else { b }
-}
-
-fn greater(a: u64, b: u64) -> u64
-    ensures { result ≡ max a b }
-{
-    if a < b { b } else { a }
-}
-
-fn find_extremes(values: &[u64]) -> Extremes
-    requires { 0 < length values.now }
-    ensures { (result.smallest ≡ smallest values.now) × (result.largest ≡ largest values.now) }
-{
-    let mut low = values[0];
-    let mut high = values[0];
-    let mut i = 1;
-    while i < values.len() {
-        low = lesser(low, values[i]);
-        high = greater(high, values[i]);
-        i += 1;
+    let (first, rest) = values.split_first()?;
+    let mut ends = Extremes {
+        smallest: *first,
+        largest: *first,
+    };
+    for x in rest {
+        ends.smallest = ends.smallest.min(*x);
+        ends.largest = ends.largest.max(*x);
     }
-    Extremes {
-        smallest: low,
-        largest: high,
-    }
+    Some(ends)
 }
 
 // The values lent, all of them, are a qualifying group; the limit is in 1 in 10,000.
 pub fn is_group(values: &[u64], limit: u64) -> bool
     ensures { result ≡ qualifies limit values.now }
 {
-    if values.len() == 0 {
+    let Some(ends) = find_extremes(values) else {
         return false;
-    }
-    let ends = find_extremes(values);
+    };
     let spread = exact::product(ends.largest - ends.smallest, 10000);
     let allowed = exact::product(limit, ends.smallest);
     exact::is_at_most(spread, allowed)
 }
 
 // The first `size` consecutive values that qualify.
-pub fn first_group(values: &[u64], size: usize, limit: u64) -> Group
-    ensures { place_of result ≡ first_group limit size values.now }
+pub fn first_group(values: &[u64], size: usize, limit: u64) -> Option<usize>
+    ensures { result ≡ first_group limit size values.now }
 {
     if size == 0 {
-        return Group::Nothing;
+        return None;
     }
-    if values.len() < size {
-        return Group::Nothing;
-    }
-    let last = values.len() - size;
-    let mut at = 0;
-    while at <= last {
-        let end = at + size;
-        if is_group(&values[at..end], limit) {
-            return Group::At(at);
-        }
-        at += 1;
-    }
-    Group::Nothing
+    values
+        .windows(size)
+        .position(|group| is_group(group, limit))
 }
 
 // The mean of the values lent, rounded, halves up; 0 of no values.
@@ -112,21 +74,15 @@ pub fn mean(values: &[u64]) -> u64
 
 // The spread of the values lent, as people work it out; 9 where there is none to tell: no values, a
 // smallest of 0, or a spread of more than 64 bits.
-pub fn find_spread(values: &[u64]) -> Spread
-    ensures { told_spread result ≡ spread_of values.now }
+pub fn find_spread(values: &[u64]) -> Result<Extent, Refusal>
+    ensures { told result ≡ spread_of values.now }
 {
-    if values.len() == 0 {
-        return Spread::Refused(Refusal::NoGroup);
-    }
-    let ends = find_extremes(values);
+    let ends = find_extremes(values).ok_or(Refusal::NoGroup)?;
     let quotient = exact::rounded_ratio(ends.largest - ends.smallest, 100000, ends.smallest);
-    match quotient {
-        Quotient::Value(spread) => Spread::Worked(Extent {
-            smallest: ends.smallest,
-            largest: ends.largest,
-            spread,
-        }),
-        Quotient::ZeroDivisor => Spread::Refused(Refusal::NoGroup),
-        Quotient::TooLarge => Spread::Refused(Refusal::NoGroup),
-    }
+    let spread = quotient.map_err(|_| Refusal::NoGroup)?;
+    Ok(Extent {
+        smallest: ends.smallest,
+        largest: ends.largest,
+        spread,
+    })
 }

@@ -3,14 +3,15 @@
 #![tactic(auto)]
 
 ghost use Rattle.std.specs.Prelude.{◌≡◌};
-ghost use Rattle.book.specs.Answers.{told_change, told_take};
 ghost use Rattle.book.specs.Calls.{request_of, after_request, withdrawal_of, after_withdrawal, take_of, after_take, setting_of, after_setting};
+ghost use Rattle.refusals.specs.Answered.{told};
 
-use book::{Book, Change, Figures, Handout};
+use book::{Book, Figures, Handed};
+use refusals::Refusal;
 
 // A shipper asks that a request waits.
-pub fn request(kept: &mut Book, shipper: u8, number: u32) -> Change
-    ensures { (told_change result ≡ request_of kept.old shipper number) × (kept.new ≡ after_request kept.old shipper number) }
+pub fn request(kept: &mut Book, shipper: u8, number: u32) -> Result<(), Refusal>
+    ensures { (told result ≡ request_of kept.old shipper number) × (kept.new ≡ after_request kept.old shipper number) }
 {
     let done = book::request(*kept, shipper, number);
     *kept = done.book;
@@ -18,8 +19,8 @@ pub fn request(kept: &mut Book, shipper: u8, number: u32) -> Change
 }
 
 // A shipper takes a request back.
-pub fn withdraw(kept: &mut Book, shipper: u8, number: u32) -> Change
-    ensures { (told_change result ≡ withdrawal_of kept.old shipper number) × (kept.new ≡ after_withdrawal kept.old shipper number) }
+pub fn withdraw(kept: &mut Book, shipper: u8, number: u32) -> Result<(), Refusal>
+    ensures { (told result ≡ withdrawal_of kept.old shipper number) × (kept.new ≡ after_withdrawal kept.old shipper number) }
 {
     let done = book::withdraw(*kept, shipper, number);
     *kept = done.book;
@@ -27,8 +28,8 @@ pub fn withdraw(kept: &mut Book, shipper: u8, number: u32) -> Change
 }
 
 // The prover is free: the next request is handed out.
-pub fn take(kept: &mut Book) -> Handout
-    ensures { (told_take result ≡ take_of kept.old) × (kept.new ≡ after_take kept.old) }
+pub fn take(kept: &mut Book) -> Result<Handed, Refusal>
+    ensures { (told result ≡ take_of kept.old) × (kept.new ≡ after_take kept.old) }
 {
     let done = book::take(*kept);
     *kept = done.book;
@@ -36,8 +37,8 @@ pub fn take(kept: &mut Book) -> Handout
 }
 
 // Figures are set on an empty book.
-pub fn set_figures(kept: &mut Book, figures: Figures) -> Change
-    ensures { (told_change result ≡ setting_of kept.old figures) × (kept.new ≡ after_setting kept.old figures) }
+pub fn set_figures(kept: &mut Book, figures: Figures) -> Result<(), Refusal>
+    ensures { (told result ≡ setting_of kept.old figures) × (kept.new ≡ after_setting kept.old figures) }
 {
     let done = book::set_figures(*kept, figures);
     *kept = done.book;

@@ -1,17 +1,16 @@
 -- docs/LINES.md, 'Operands': the words of a line by their place, the entry's name being word 0.
-use Rattle.std.specs.Prelude.{Bool, true, false, cond, ◌&&◌, ◌||◌, List, [], ◌∷◌, ℕ, suc, eqb, leb, ℤ, length, get_or, take}
-use Rattle.std.proofs.Math.Option.{Option, none, some}
+use Rattle.std.specs.Prelude.{Bool, true, false, cond, ◌&&◌, ◌||◌, List, [], ◌∷◌, ℕ, suc, eqb, leb, ℤ, length, get_or, take, Option, None, Some}
 use Rattle.words.specs.Words.{word_of, word_count}
 use Rattle.numerals.specs.Numbers.{number_of, signed_of}
 use Rattle.hex_words.specs.Hex.{are_bytes, is_single}
 
 abbrev pub is_number : Option ℕ → Bool
-is_number none = false
-is_number (some v) = true
+is_number None = false
+is_number (Some v) = true
 
 abbrev pub is_signed : Option ℤ → Bool
-is_signed none = false
-is_signed (some v) = true
+is_signed None = false
+is_signed (Some v) = true
 
 -- 'PLACES is `4` or `6`'
 unfoldable pub is_places : List ℕ → Bool
@@ -40,8 +39,8 @@ unfoldable pub has_form : ℕ → List ℕ → List ℕ → Bool
 has_form least line kinds = leb (word_count line) (length kinds) && (leb least (word_count line) && are_kinds 0 line (take (word_count line) kinds))
 
 abbrev pub or_zero : Option ℕ → ℕ
-or_zero none = 0
-or_zero (some v) = v
+or_zero None = 0
+or_zero (Some v) = v
 
 -- the number that word n is, up to the most that its operand holds; 0 where it is none
 unfoldable pub number_at : ℕ → ℕ → List ℕ → ℕ

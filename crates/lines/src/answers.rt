@@ -18,10 +18,8 @@ pub fn add_numbers(numbers: &[u64], out: &mut [u8], from: usize) -> usize
     ensures left { out.new ≡ written_all out.old from (numbers_spelt numbers.now) }
 {
     let mut at = from;
-    let mut i = 0;
-    while i < numbers.len() {
-        at = add_number(numbers[i], out, at);
-        i += 1;
+    for n in numbers {
+        at = add_number(*n, out, at);
     }
     at
 }

@@ -1,46 +1,27 @@
-// The operands of a line by their place, the entry's name being word 0. What is malformed reads as 0:
-// `has_form` is asked before.
+// The operands of a line by their place, the entry's name being word 0. What is malformed reads as 0, which
+// GrammarOutcome (promises) says of `number_at` by name: `has_form` is asked before.
 ghost use Rattle.std.specs.Prelude.{◌≡◌};
-ghost use Rattle.numerals.specs.Numbers.{told, told_signed};
-ghost use Rattle.lines.specs.Operands.{is_number, is_signed, is_places, is_kind, are_kinds, has_form, or_zero, number_at};
+ghost use Rattle.lines.specs.Operands.{is_places, is_kind, are_kinds, has_form, number_at};
 
-use numerals::{Number, Signed};
-use octets::byte_at;
-
-fn is_number(number: Number) -> bool
-    ensures { result ≡ is_number (told number) }
-{
-    match number {
-        Number::Value(_) => true,
-        Number::Malformed => false,
-    }
-}
-
-fn is_signed(signed: Signed) -> bool
-    ensures { result ≡ is_signed (told_signed signed) }
-{
-    match signed {
-        Signed::Value(_) => true,
-        Signed::Malformed => false,
-    }
-}
-
+#[tactic(auto, unfolding(crate::specs::Operands::is_places))]
 fn is_places(word: &[u8]) -> bool
     ensures { result ≡ is_places word.now }
 {
-    (word.len() == 1) & ((byte_at(word, 0) == 52) | (byte_at(word, 0) == 54))
+    matches!(word, [b'4' | b'6'])
 }
 
+// A kind stays its letter: what `has_form` promises of a letter that is no kind stands in its contract.
+#[tactic(auto, using(crate::proofs::Forms::is_number_is, crate::proofs::Forms::is_signed_is), unfolding(crate::specs::Operands::is_kind))]
 fn is_kind(word: &[u8], kind: u8) -> bool
     ensures { result ≡ is_kind kind word.now }
 {
     match kind {
         b'n' => true,
-        b'b' => is_number(numerals::read_number(word, 255)),
-        b'h' => is_number(numerals::read_number(word, 65535)),
-        b'w' => is_number(numerals::read_number(word, 4294967295)),
-        b'd' => is_number(numerals::read_number(word, 18446744073709551615)),
-        b's' => is_signed(numerals::read_signed(word)),
+        b'b' => numerals::read_number(word, u8::MAX as u64).is_some(),
+        b'h' => numerals::read_number(word, u16::MAX as u64).is_some(),
+        b'w' => numerals::read_number(word, u32::MAX as u64).is_some(),
+        b'd' => numerals::read_number(word, u64::MAX).is_some(),
+        b's' => numerals::read_signed(word).is_some(),
         b'p' => is_places(word),
         b'x' => hex_words::are_bytes(word),
         b'f' => hex_words::is_single(word),
@@ -51,14 +32,10 @@ fn is_kind(word: &[u8], kind: u8) -> bool
 fn are_kinds(line: &[u8], kinds: &[u8]) -> bool
     ensures { result ≡ are_kinds 0 line.now kinds.now }
 {
-    let mut i = 0;
-    while i < kinds.len() {
-        if !is_kind(words::word(line, i), kinds[i]) {
-            return false;
-        }
-        i += 1;
-    }
-    true
+    kinds
+        .iter()
+        .enumerate()
+        .all(|(n, kind)| is_kind(words::word(line, n), *kind))
 }
 
 // Each word of its kind: at least so many words, and at most as many as kinds.
@@ -69,20 +46,11 @@ pub fn has_form(line: &[u8], kinds: &[u8], least: usize) -> bool
     if kinds.len() < count {
         return false;
     }
-    (least <= count) & are_kinds(line, &kinds[..count])
-}
-
-fn or_zero(number: Number) -> u64
-    ensures { result ≡ or_zero (told number) }
-{
-    match number {
-        Number::Value(value) => value,
-        Number::Malformed => 0,
-    }
+    least <= count && are_kinds(line, &kinds[..count])
 }
 
 pub fn number_at(line: &[u8], n: usize, most: u64) -> u64
     ensures { result ≡ number_at most n line.now }
 {
-    or_zero(numerals::read_number(words::word(line, n), most))
+    numerals::read_number(words::word(line, n), most).unwrap_or(0)
 }

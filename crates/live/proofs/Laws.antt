@@ -1,15 +1,15 @@
 -- What each field of a single's bits makes of o + k·x: what the code's branches cite.
-use mathlib.Core.Path.{◌≡◌, refl, sym, ap, ◌∙◌, subst, subst⁻¹}
-use mathlib.Core.Bool.{Bool, true, false, not, true≢false}
+use mathlib.Core.Path.{◌≡◌, refl, sym, ap, ◌∙◌, subst⁻¹}
+use mathlib.Core.Bool.{Bool, true, false}
 use Prim.Native.Nat.{ℕ, zero, suc, ◌+◌, ◌-◌, ◌*◌, ◌^◌, ◌≤◌, ◌<◌}
 use native.Mathlib.Nat.{mul-le-mul, mul_assoc, one-mul}
 use native.Mathlib.Omega.{arith}
-use lib.Dec.{T, lit<}
+use lib.Dec.{lit<}
 use lib.IntN.{ℤ, pos, nat_abs, ◌+ℤ◌}
-use lib.Ieee.{Float, nan, inf, fin, binary32, ne, is_nan, of_bits}
-use lib.Ieee.Compare.{differs_from_itself, nan_differs}
+use lib.Ieee.{Float, nan, inf, fin, binary32, of_bits}
 use lib.Ieee.Scale.{finite}
 use lib.Pow.{pow_pos, pow_mono, pow-add}
+use Rattle.std.specs.Float.{float_is_finite}
 use Rattle.exact.specs.Rounding.{rounded_div}
 use Rattle.live.specs.Exact.{sided}
 use Rattle.live.specs.Rounding.{away_from_zero}
@@ -80,13 +80,13 @@ pub product_small : {a b : ℕ} → a < 65536 → b ≤ 1099511627776 → a * b 
 product_small {a} {b} ha hb = omega (arith, mul-le-mul {n₂ = 65535} {m₂ = 1099511627776} (at_most a ha) hb)
 
 -- from field 150 on k·x has a size of 2^23 or more, of which o takes little
-far : (o b : ℕ) (s : Bool) → o < 65536 → 8388608 ≤ b → 32767 ≤ nat_abs (summed (o * 1) s b 1)
+far : (o b : ℕ) (s : Bool) → o < 65536 → 8388608 ≤ b → 32768 ≤ nat_abs (summed (o * 1) s b 1)
 far o b false ho l = rw (summed_whole (o * 1) false b) (omega arith)
 far o b true ho l = rw (summed_whole (o * 1) true b, add_passing (o * 1) b (omega arith), size_sided true (b - o * 1)) (omega arith)
 
-pub whole_far : (o k b : ℕ) → o < 65536 → 0 < k → 150 ≤ field_of b → field_of b < 255 → 32767 ≤ nat_abs (whole_of o k (of_bits binary32 b))
+pub whole_far : (o k b : ℕ) → o < 65536 → 0 < k → 150 ≤ field_of b → field_of b < 255 → 32768 ≤ nat_abs (whole_of o k (of_bits binary32 b))
 whole_far o k b ho hk l h =
-    subst⁻¹ (λ (z : ℤ). 32767 ≤ nat_abs z)
+    subst⁻¹ (λ (z : ℤ). 32768 ≤ nat_abs z)
     (whole_cut o k b ((8388608 + digits_of b) * 2 ^ (field_of b - 150)) 1 h (lit< tt) (pow_pos 149)
     ((λ i. led_by_one (field_of b) (digits_of b) (omega arith) i * (ap (λ (n : ℕ). 2 ^ n) (parts (field_of b) (doubled_once_fewer (field_of b) (omega arith)) l) ∙ pow-add 2 (field_of b - 150) 149) i)
     ∙ sym (mul_assoc (8388608 + digits_of b) (2 ^ (field_of b - 150)) (2 ^ 149)))
@@ -96,18 +96,9 @@ whole_far o k b ho hk l h =
     parts : (f : ℕ) {e : ℕ} → f ≡ suc e → 150 ≤ f → e ≡ f - 150 + 149
     parts f is l = omega arith
 
--- a NaN differs from itself, and nothing else does
-pub differs_not_finite : (x : Float) → ne x x ≡ true → finite x ≡ false
-differs_not_finite x h = ap finite (differs_from_itself x (subst⁻¹ T h tt))
-
-pub same_no_nan : (x : Float) → ne x x ≡ false → T (not (is_nan x))
-unfolding is_nan
-same_no_nan nan h = absurd (subst T (sym nan_differs ∙ h) tt)
-same_no_nan (inf s) h = tt
-same_no_nan (fin s m e) h = tt
-
-pub finite_no_nan : (x : Float) → finite x ≡ true → T (not (is_nan x))
-unfolding is_nan
-finite_no_nan nan h = absurd (true≢false (sym h))
-finite_no_nan (inf s) h = tt
-finite_no_nan (fin s m e) h = tt
+-- the kit's test of a single is the paper's
+pub is_finite_is : (x : Float) → float_is_finite x ≡ finite x
+unfolding float_is_finite
+is_finite_is nan = refl
+is_finite_is (inf s) = refl
+is_finite_is (fin s m e) = refl

@@ -4,7 +4,6 @@ pub mod Value
 pub mod Fields
 pub mod Laws
 pub mod Words
-pub mod Answers
 pub mod Spacing
 pub mod Distance
 pub mod Tenths

@@ -1,13 +1,11 @@
 -- 02, 'Smart transmitters': a live reading 'is made from a temperature channel and a pressure channel in that order'.
 use Rattle.std.specs.Prelude.{ℤ, Float}
 use Rattle.ranges.specs.Table.{temperature_ok}
-use Rattle.refusals.specs.Table.{number_of, record_of}
-use Rattle.refusals.specs.Told.{Told, done, refused}
-use Rattle.live.specs.Live.{Values, single_of, temperature_of, pressure_of, in_order}
+use Rattle.refusals.specs.Told.{Told, refused}
+use Rattle.live.specs.Live.{single_of, temperature_of, pressure_of, in_order}
+use Rattle.live.specs.declared.Values.{Values}
 use Rattle.live.specs.declared.channels.Channel.{Channel}
 use Rattle.live.specs.declared.channels.Channel.TheVariants.{Fahrenheit, Celsius, Pressure, Fault}
-use Rattle.live.specs.declared.channels.Taken.{Taken}
-use Rattle.live.specs.declared.channels.Taken.TheVariants.{Whole, Refused}
 
 -- 'Celsius converts from the exact number in the bits, 9/5 and 32, with one rounding to tenths of °F': ten times 9/5 · c + 32 is 320 + 18c
 unfoldable pub celsius_of : Float → Told ℤ
@@ -30,8 +28,3 @@ pressure_channel_of (Pressure x) = pressure_of x
 -- 'the first channel's 34, 35, 12, 13, then the second's'
 unfoldable pub channels_of : Channel → Channel → Told Values
 channels_of temperature pressure = in_order (temperature_channel_of temperature) (pressure_channel_of pressure)
-
--- a channel's whole number, or the paper's number and record
-unfoldable pub told_taken : Taken → Told ℤ
-told_taken (Whole n) = done n
-told_taken (Refused refusal) = refused (number_of refusal) (record_of refusal)

@@ -2,10 +2,8 @@
 use Rattle.std.specs.Prelude.{Bool, false, ℕ, ◌*◌, ℤ, pos, negsuc, nat_abs, ◌+ℤ◌, ◌*ℤ◌, Float}
 use Rattle.std.specs.Float.Ieee.Scale.{finite}
 use Rattle.ranges.specs.Table.{temperature_ok, pressure_ok}
-use Rattle.refusals.specs.Table.{number_of, record_of}
 use Rattle.refusals.specs.Told.{Told, done, refused, demand, or_else, judged}
-use Rattle.live.specs.declared.Live.{Live}
-use Rattle.live.specs.declared.Live.TheVariants.{Whole, Refused}
+use Rattle.live.specs.declared.Values.{Values}
 use Rattle.live.specs.Exact.{numerator, denominator}
 use Rattle.live.specs.Rounding.{away_from_zero}
 
@@ -30,11 +28,6 @@ psi_ok (negsuc n) = false
 unfoldable pub pressure_of : Float → Told ℤ
 pressure_of = single_of psi_ok 0 1
 
--- what a live reading comes to: the temperature in tenths of °F and the pressure in whole psi
-pub record Values : Type 0 where
-  pub tenths : ℤ
-  pub psi : ℕ
-
 -- 'Order: temperature .., then pressure likewise'
 abbrev pub in_order : Told ℤ → Told ℤ → Told Values
 in_order (refused number at) pressure = refused number at
@@ -43,8 +36,3 @@ in_order (done tenths) (done psi) = done (record { tenths = tenths; psi = nat_ab
 
 unfoldable pub live_of : Float → Float → Told Values
 live_of temperature pressure = in_order (temperature_of temperature) (pressure_of pressure)
-
--- the paper's values, or its number and record, for each answer
-unfoldable pub told : Live → Told Values
-told (Whole tenths psi) = done (record { tenths = tenths; psi = psi })
-told (Refused refusal) = refused (number_of refusal) (record_of refusal)

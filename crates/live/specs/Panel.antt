@@ -3,11 +3,8 @@ use Rattle.std.specs.Prelude.{ℕ, ℤ, pos, nat_abs, ◌-ℤ◌, ◌*ℤ◌, Fl
 use Rattle.std.specs.Float.{binary32}
 use Rattle.std.specs.Float.Ieee.{of_int, div}
 use Rattle.ranges.specs.Table.{temperature_ok, pressure_ok}
-use Rattle.refusals.specs.Table.{number_of, record_of}
-use Rattle.refusals.specs.Told.{Told, done, refused, demand, judged}
+use Rattle.refusals.specs.Told.{Told, demand, judged}
 use Rattle.live.specs.Exact.{numerator, denominator}
-use Rattle.live.specs.declared.panel.Panel.{Panel}
-use Rattle.live.specs.declared.panel.Panel.TheVariants.{Shows, Refused}
 
 -- a whole number as a single, which is that number for any of 16 bits
 unfoldable pub cast : ℤ → Float
@@ -28,8 +25,3 @@ panel_pressure_of p = judged (demand (pressure_ok p) 13) (cast (pos p))
 -- 'the distance between 10x and n', x the single's exact number: in parts of its denominator
 abbrev pub distance : ℤ → Float → ℕ
 distance n x = nat_abs (pos 10 *ℤ numerator x -ℤ n *ℤ pos (denominator x))
-
--- the paper's single, or its number and record, for each answer
-unfoldable pub told : Panel → Told Float
-told (Shows x) = done x
-told (Refused refusal) = refused (number_of refusal) (record_of refusal)

@@ -1,6 +1,6 @@
 -- Not of the paper: what the code's words of 16 bits hold of a whole number.
-use Rattle.std.specs.Prelude.{cond, ltb, ℤ, pos, nat_abs}
+use Rattle.std.specs.Prelude.{Bool, ltb, ℤ, nat_abs}
 
--- the number itself; 32767, which no range of a reading reaches, stands for a larger one on either side of zero
-unfoldable pub in_word : ℤ → ℤ
-in_word z = cond (ltb (nat_abs z) 32767) z (pos 32767)
+-- 16 bits hold its size, on either side of zero: no range of a reading reaches further
+unfoldable pub held : ℤ → Bool
+held z = ltb (nat_abs z) 32768

@@ -2,13 +2,12 @@
 // through their bits. One conversion, o + k·x with one rounding, serves both.
 #![tactic(auto)]
 
-ghost use Rattle.std.specs.Prelude.{◌≡◌};
-ghost use Rattle.std.specs.Float.Ieee.Scale.{finite};
-ghost use Rattle.refusals.specs.Told.{demand, or_else};
-ghost use Rattle.refusals.specs.Verdict.{fault_of};
-ghost use Rattle.live.specs.Live.{psi_ok, told, live_of};
+ghost use Rattle.std.specs.Prelude.{◌≡◌, ◌<◌};
+ghost use Rattle.ranges.specs.Table.{temperature_ok};
+ghost use Rattle.refusals.specs.Answered.{told};
+ghost use Rattle.live.specs.Live.{single_of, psi_ok, pressure_of, live_of};
 
-use refusals::{Refusal, Verdict};
+use refusals::Refusal;
 
 pub mod channels;
 pub mod panel;
@@ -21,45 +20,43 @@ pub struct Reading {
     pub pressure: f32,
 }
 
+// What a live reading comes to: tenths of °F, and whole psi.
 #[derive(Clone, Copy)]
-pub enum Live {
-    Whole { tenths: i16, psi: u16 },
-    Refused(Refusal),
+pub struct Values {
+    pub tenths: i16,
+    pub psi: u16,
 }
 
 // A pressure below zero is in no range.
 fn is_psi(psi: i16) -> bool
     ensures { result ≡ psi_ok psi }
 {
-    if psi < 0 {
-        false
-    } else {
-        ranges::is_pressure(psi as u64)
-    }
+    0 <= psi && ranges::is_pressure(psi as u64)
 }
 
-// A single that is not finite is told of before its range.
-fn judge(x: f32, in_range: bool) -> Verdict
-    ensures { fault_of result ≡ or_else (demand (finite x) 12) (demand in_range 13) }
+// Tenths of °F: o + k·x.
+fn take_tenths(x: f32, offset: u16, times: u16) -> Result<i16, Refusal>
+    requires { 0 < times }
+    ensures { told result ≡ single_of temperature_ok offset times x }
 {
-    let number = refusals::demand(single::is_finite(x), Refusal::ReadingNotFinite);
-    let range = refusals::demand(in_range, Refusal::ReadingRange);
-    refusals::or_else(number, range)
+    let tenths = single::round(x, offset, times)?;
+    refusals::demand(ranges::is_temperature(tenths), Refusal::ReadingRange)?;
+    Ok(tenths)
+}
+
+fn take_psi(x: f32) -> Result<i16, Refusal>
+    ensures { told result ≡ pressure_of x }
+{
+    let psi = single::round(x, 0, 1)?;
+    refusals::demand(is_psi(psi), Refusal::ReadingRange)?;
+    Ok(psi)
 }
 
 // The temperature is told of first, whatever the pressure is.
-pub fn convert(reading: Reading) -> Live
+pub fn convert(reading: Reading) -> Result<Values, Refusal>
     ensures { told result ≡ live_of reading.temperature reading.pressure }
 {
-    let tenths = single::round(reading.temperature, 0, 10);
-    let psi = single::round(reading.pressure, 0, 1);
-    let temperature = judge(reading.temperature, ranges::is_temperature(tenths));
-    let pressure = judge(reading.pressure, is_psi(psi));
-    match refusals::or_else(temperature, pressure) {
-        Verdict::Fine => Live::Whole {
-            tenths,
-            psi: psi as u16,
-        },
-        Verdict::Refused(refusal) => Live::Refused(refusal),
-    }
+    let tenths = take_tenths(reading.temperature, 0, 10)?;
+    let psi = take_psi(reading.pressure)?.unsigned_abs();
+    Ok(Values { tenths, psi })
 }

@@ -4,11 +4,14 @@
 ghost use Rattle.std.specs.Prelude.{◌≡◌, ◌/◌, ◌%◌, ◌^◌, ◌≤◌, ◌<◌, pos, ◌+ℤ◌};
 ghost use Rattle.std.specs.Float.{binary32};
 ghost use Rattle.std.specs.Float.Ieee.{of_bits};
-ghost use Rattle.std.specs.Float.Ieee.Scale.{finite};
 ghost use Rattle.exact.specs.Rounding.{rounded_div};
+ghost use Rattle.refusals.specs.Told.{demand, judged};
+ghost use Rattle.refusals.specs.Answered.{told};
 ghost use Rattle.live.specs.Exact.{sided};
-ghost use Rattle.live.specs.Live.{whole_of};
-ghost use Rattle.live.specs.Word.{in_word};
+ghost use Rattle.live.specs.Live.{whole_of, single_of};
+ghost use Rattle.live.specs.Word.{held};
+
+use refusals::Refusal;
 
 // 2^23, the weight of the field, and 2^31, the weight of the side of zero.
 const FIELD: u32 = 8388608;
@@ -20,6 +23,32 @@ const SIDE: u32 = 2147483648;
 struct Sided {
     below: bool,
     size: u64,
+}
+
+impl Sided {
+    // a + b, or a - b where b is below zero.
+    fn sum(a: u64, below: bool, b: u64) -> Sided
+        requires { (a < 2 ^ 63) × (b < 2 ^ 63) }
+        ensures { sided result.below result.size ≡ pos a +ℤ sided below b }
+    {
+        if !below {
+            return Sided { below, size: a + b };
+        }
+        Sided {
+            below: a < b,
+            size: a.abs_diff(b),
+        }
+    }
+
+    // The number, where 16 bits hold its size: no range reaches further.
+    fn to_word(self) -> Result<i16, Refusal>
+        ensures { told result ≡ judged (demand (held (sided self.below self.size)) 13) (sided self.below self.size) }
+    {
+        let Ok(size) = i16::try_from(self.size) else {
+            return Err(Refusal::ReadingRange);
+        };
+        Ok(if self.below { -size } else { size })
+    }
 }
 
 fn raise_two(exponent: u32) -> u64
@@ -43,31 +72,6 @@ fn round_half_up(top: u64, bottom: u64) -> u64
     }
 }
 
-// a + b, or a - b where b is below zero.
-fn add_sided(a: u64, below: bool, b: u64) -> Sided
-    requires { (a < 2 ^ 63) × (b < 2 ^ 63) }
-    ensures { sided result.below result.size ≡ pos a +ℤ sided below b }
-{
-    if below {
-        if b <= a {
-            Sided {
-                below: false,
-                size: a - b,
-            }
-        } else {
-            Sided {
-                below: true,
-                size: b - a,
-            }
-        }
-    } else {
-        Sided {
-            below: false,
-            size: a + b,
-        }
-    }
-}
-
 // Below field 110 the size of k·x is under a half, since k is under 2^16: what is left is o.
 fn round_scaled(bits: u32, offset: u16, times: u16) -> Sided
     requires { bits / 8388608 % 256 < 150 }
@@ -82,7 +86,7 @@ fn round_scaled(bits: u32, offset: u16, times: u16) -> Sided
     }
     let bottom = raise_two(150 - field);
     let digits = FIELD + bits % FIELD;
-    let sum = add_sided(
+    let sum = Sided::sum(
         offset as u64 * bottom,
         SIDE <= bits,
         times as u64 * digits as u64,
@@ -94,41 +98,17 @@ fn round_scaled(bits: u32, offset: u16, times: u16) -> Sided
     }
 }
 
-// No range reaches 32767, on either side.
-fn to_word(whole: Sided) -> i16
-    ensures { result ≡ in_word (sided whole.below whole.size) }
+// A single that is not finite is told of before its range. From field 150 on the size of x is 2^23 or more,
+// and o is under 2^16: no range reaches so far.
+pub(crate) fn round(x: f32, offset: u16, times: u16) -> Result<i16, Refusal>
+    requires { 0 < times }
+    ensures { told result ≡ single_of held offset times x }
 {
-    let size = whole.size;
-    if 32767 <= size {
-        return 32767;
+    refusals::demand(x.is_finite(), Refusal::ReadingNotFinite)?;
+    let bits = x.to_bits();
+    if bits / FIELD % 256 < 150 {
+        round_scaled(bits, offset, times).to_word()
+    } else {
+        Err(Refusal::ReadingRange)
     }
-    let magnitude = size as i16;
-    let below = whole.below;
-    if below { -magnitude } else { magnitude }
-}
-
-pub(crate) fn is_finite(x: f32) -> bool
-    ensures { result ≡ finite x }
-{
-    // Only a NaN differs from itself; its bits are no number's.
-    if x != x {
-        return false;
-    }
-    f32::to_bits(x) / FIELD % 256 < 255
-}
-
-// What is not finite holds no number, and o is left. From field 150 on the size of x is 2^23 or more,
-// and o is under 2^15: no range reaches so far.
-pub(crate) fn round(x: f32, offset: u16, times: u16) -> i16
-    requires { (offset < 32767) × (0 < times) }
-    ensures { result ≡ in_word (whole_of offset times x) }
-{
-    if is_finite(x) {
-        let bits = f32::to_bits(x);
-        if bits / FIELD % 256 < 150 {
-            return to_word(round_scaled(bits, offset, times));
-        }
-        return 32767;
-    }
-    offset as i16
 }

@@ -1,5 +1,6 @@
 -- A pair as one number: it rises exactly where the paper's order does, and no two pairs share one.
-use mathlib.Core.Path.{◌≡◌, refl, ◌∙◌}
+use Rattle.std.specs.Prelude.{None, Some}
+use mathlib.Core.Path.{◌≡◌, refl, sym, ◌∙◌}
 use mathlib.Core.Bool.{Bool, true, false}
 use mathlib.Core.Logic.{by_cases}
 use Prim.Native.Nat.{ℕ, ◌+◌, ◌*◌, ◌<◌}
@@ -8,15 +9,13 @@ use native.Mathlib.Omega.{arith}
 use borrow.Author.Tests.{lt-ltb, le-ltb, eq-eqb, ne_eqb}
 use lib.Dec.{ltb}
 use lib.IntN.{ℤ}
-use Rattle.ranges.specs.Table.{temperature_ok, gravity_ok}
-use Rattle.ranges.proofs.Laws.{both_first}
+use Rattle.ranges.specs.Table.{temperature_ok}
 use Rattle.lookup.specs.HalfDegree.{half_degree, half_degree_signed}
 use Rattle.lookup.specs.Table.{follows}
 use Rattle.lookup.specs.Pair.{asked_ok}
-use Rattle.lookup.specs.Rank.{rank_of, rank_asked}
+use Rattle.lookup.specs.Rank.{rank_of, rank_asked, rank_if}
 use Rattle.lookup.specs.declared.Entry.{Entry}
 use Rattle.lookup.proofs.Counted.{counted, counted_least, counted_most, one_count, same_test, colder}
-use Rattle.lookup.proofs.HalfDegree.{temperature_stays}
 
 pub rank_above_zero : (t : ℤ) (g : ℕ) → temperature_ok t ≡ true → 0 < rank_of t g
 unfolding rank_of
@@ -48,19 +47,25 @@ rank_follows a b a-ok b-ok =
     (same_test (4096 * g + t) (4096 * f + u) t u (λ h. omega (arith, same, h)) (λ h. omega (arith, same, h)) ∙ colder a.temperature b.temperature a-ok b-ok))
     (λ other. rw (le-ltb g f (omega arith), ne_eqb g f other) (le-ltb (4096 * g + t) (4096 * f + u) (omega (arith, not-less, other, u_most)))))
 
--- what is asked is in range exactly where its number is not 0
-pub asked_tells : (t : ℤ) (g : ℕ) → ltb 0 (rank_asked t g) ≡ asked_ok t g
-unfolding rank_asked asked_ok
-asked_tells t g = by-test (asked_ok t g) refl
-  where
-    by-test : (b : Bool) → asked_ok t g ≡ b → ltb 0 (rank_asked t g) ≡ asked_ok t g
-    by-test true is = rw is (lt-ltb 0 (rank_of (half_degree_signed t) (half_degree g)) (rank_above_zero (half_degree_signed t) (half_degree g) (temperature_stays t (both_first (temperature_ok t) (gravity_ok g) is))))
-    by-test false is = rw is
+-- the number, where there is one
+pub is_ranked : {ok : Bool} {x rank : ℕ} → ok ≡ true → x ≡ rank → Some x ≡ rank_if ok rank
+unfolding rank_if
+is_ranked good is = λ i. rank_if (sym good i) (is i)
+
+pub not_ranked : {ok : Bool} (rank : ℕ) → ok ≡ false → None ≡ rank_if ok rank
+unfolding rank_if
+not_ranked rank bad = λ i. rank_if (sym bad i) rank
+
+pub ranked_was : {x rank : ℕ} (ok : Bool) → rank_if ok rank ≡ Some x → (ok ≡ true) × (rank ≡ x)
+unfolding rank_if
+ranked_was true is = (refl, (cc))
+ranked_was false is = ((cc), (cc))
+
+pub ranked_not : (rank : ℕ) (ok : Bool) → rank_if ok rank ≡ None → ok ≡ false
+unfolding rank_if
+ranked_not rank true is = cc
+ranked_not rank false is = refl
 
 pub asked_is : (t : ℤ) (g : ℕ) → asked_ok t g ≡ true → rank_asked t g ≡ rank_of (half_degree_signed t) (half_degree g)
 unfolding rank_asked
 asked_is t g ok = rw ok
-
-pub not_asked : (t : ℤ) (g : ℕ) → asked_ok t g ≡ false → rank_asked t g ≡ 0
-unfolding rank_asked
-not_asked t g is = rw is

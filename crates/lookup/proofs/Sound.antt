@@ -4,13 +4,15 @@ use mathlib.Core.Path.{◌≡◌, refl, sym, ap, ◌∙◌}
 use mathlib.Core.Bool.{Bool, true, false, ◌&&◌}
 use mathlib.Core.List.{List}
 use mathlib.Core.Logic.{by_cases}
-use Prim.Native.Nat.{ℕ, zero, suc, ◌+◌, ◌<◌, ◌≤◌}
+use Prim.Native.Nat.{ℕ, zero, suc, ◌+◌, ◌<◌}
 use native.Mathlib.Decide.{dec_lt}
 use native.Mathlib.Omega.{arith}
 use borrow.Author.Tests.{ltb-true, lt-ltb, le-ltb}
 use lib.Dec.{ltb}
-use Rattle.refusals.specs.Told.{fine, fault}
-use Rattle.refusals.proofs.Laws.{demand_at_was, demand_at_holds, demand_at_fails}
+use Rattle.refusals.specs.Told.{fine, fault, demand_at}
+use Rattle.refusals.proofs.Laws.{demand_at_was}
+use Rattle.octets.specs.FirstToLast.{scan}
+use Rattle.octets.proofs.FirstToLast.{faults, found}
 use Rattle.ranges.specs.Table.{temperature_ok}
 use Rattle.ranges.proofs.Laws.{both_first, both_second}
 use Rattle.lookup.specs.Table.{entry_at, entry_ok, record_ok, order_ok}
@@ -59,13 +61,17 @@ module _ (s : List ℕ) where
       by_record true is = rw is (order_by_rank i is before)
       by_record false is = rw is (sym (le-ltb (rank_before i) (rank_at s i) (omega (arith, rank_faulty i is))))
 
-  pub passes : (i : ℕ) → NoFault s i → rank_before i < rank_at s i → entry_fault s i ≡ fine
+  pub by_rank : (i : ℕ) → NoFault s i → entry_fault s i ≡ demand_at (ltb (rank_before i) (rank_at s i)) 32 (i + 1)
   unfolding entry_fault
-  passes i before more = demand_at_holds 32 (i + 1) (judged_by_rank i before ∙ lt-ltb (rank_before i) (rank_at s i) more)
+  by_rank i before = ap (λ (ok : Bool). demand_at ok 32 (i + 1)) (judged_by_rank i before)
 
-  pub stops : (i : ℕ) → NoFault s i → rank_at s i ≤ rank_before i → entry_fault s i ≡ fault 32 (i + 1)
+  pub faulty : (i : ℕ) → record_ok s i ≡ false → entry_fault s i ≡ fault 32 (i + 1)
   unfolding entry_fault
-  stops i before less = demand_at_fails 32 (i + 1) (judged_by_rank i before ∙ le-ltb (rank_before i) (rank_at s i) less)
+  faulty i bad = ap (λ (ok : Bool). demand_at (ok && order_ok s i) 32 (i + 1)) bad
+
+  -- a record at fault behind none is the first
+  pub first_fault : {number at : ℕ} (n i : ℕ) → i < n → NoFault s i → entry_fault s i ≡ fault number at → scan (entry_fault s) n 0 ≡ fault number at
+  first_fault n i h before is = found faults (entry_fault s) n 0 (record { place = i; from = omega arith; below = omega arith; gives = is; before = λ j le l. before j l }) (λ y. refl)
 
   pub one_more : (i : ℕ) → NoFault s i → entry_fault s i ≡ fine → NoFault s (i + 1)
   one_more i before here k h = by_cases (dec_lt k i) (before k) (λ last. let same : k ≡ i = omega arith in ap (entry_fault s) same ∙ here)

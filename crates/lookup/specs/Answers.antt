@@ -1,7 +1,5 @@
 -- What a look-up answers, by the paper's order: 1, the records first to last with 32, 13, 33.
-use Rattle.std.specs.Prelude.{◌&&◌, List, ℕ, ◌+◌, ℤ, length}
-use Rattle.std.proofs.Math.Option.{Option, none, some}
-use Rattle.refusals.specs.Table.{number_of, record_of}
+use Rattle.std.specs.Prelude.{◌&&◌, List, ℕ, ◌+◌, ℤ, length, Option, None, Some}
 use Rattle.refusals.specs.Told.{Told, done, refused, Fault, demand, demand_at, or_else, unless}
 use Rattle.ranges.specs.Table.{entries_ok}
 use Rattle.octets.specs.FirstToLast.{scan, first_place}
@@ -10,13 +8,6 @@ use Rattle.lookup.specs.HalfDegree.{half_degree, half_degree_signed}
 use Rattle.lookup.specs.Table.{entry_at, record_ok, order_ok}
 use Rattle.lookup.specs.Pair.{asked_ok, has_pair}
 use Rattle.lookup.specs.declared.Entry.{Entry}
-use Rattle.lookup.specs.declared.LookUp.{LookUp}
-use Rattle.lookup.specs.declared.LookUp.TheVariants.{Found, Refused}
-
--- the record found, or the paper's number and record
-abbrev pub told : LookUp → Told Entry
-told (Found entry) = done entry
-told (Refused refusal) = refused (number_of refusal) (record_of refusal)
 
 -- '32 for a faulty or disordered record with its place', from 1
 unfoldable pub entry_fault : List ℕ → ℕ → Fault
@@ -28,8 +19,8 @@ table_fault s = or_else (demand (are_records entries_ok 8 (length s)) 1) (scan (
 
 -- 'The answer is the record with that pair'; '33 for no such pair'
 abbrev pub record_found : List ℕ → Option ℕ → Told Entry
-record_found s none = refused 33 0
-record_found s (some i) = done (entry_at s i)
+record_found s None = refused 33 0
+record_found s (Some i) = done (entry_at s i)
 
 unfoldable pub found_in : List ℕ → ℤ → ℕ → Told Entry
 found_in s t g = record_found s (first_place (has_pair s t g) (records_in 8 s) 0)

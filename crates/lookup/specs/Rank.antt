@@ -1,6 +1,6 @@
 -- What the one pass over a table keeps of a record: one number, which rises where the paper's order does and is 0 of a faulty record. The
 -- answers do not speak of it.
-use Rattle.std.specs.Prelude.{◌≡◌, cond, List, ℕ, ◌+◌, ◌*◌, ◌<◌, ℤ, pos, nat_abs, ◌+ℤ◌}
+use Rattle.std.specs.Prelude.{Bool, false, cond, List, ℕ, ◌+◌, ◌*◌, eqb, ℤ, pos, nat_abs, ◌+ℤ◌, Option, None, Some}
 use Rattle.lookup.specs.HalfDegree.{half_degree, half_degree_signed}
 use Rattle.lookup.specs.Table.{entry_at, record_ok}
 use Rattle.lookup.specs.Pair.{asked_ok}
@@ -17,7 +17,11 @@ rank_at s i = cond (record_ok s i) (rank_of (entry_at s i).temperature (entry_at
 unfoldable pub rank_asked : ℤ → ℕ → ℕ
 rank_asked t g = cond (asked_ok t g) (rank_of (half_degree_signed t) (half_degree g)) 0
 
--- of n records the place is that of every one with this number, and below n only of such a one
-pub record Sought (s : List ℕ) (n wanted place : ℕ) : Type 0 where
-  pub only : (k : ℕ) → k < n → rank_at s k ≡ wanted → place ≡ k
-  pub has : place < n → rank_at s place ≡ wanted
+-- as the code has it: none where the record is faulty, or what is asked out of range
+unfoldable pub rank_if : Bool → ℕ → Option ℕ
+rank_if ok rank = cond ok (Some rank) None
+
+-- the record at a place has the number that is wanted
+unfoldable pub is_wanted : List ℕ → Option ℕ → ℕ → Bool
+is_wanted s None i = false
+is_wanted s (Some rank) i = eqb rank (rank_at s i)

@@ -2,18 +2,18 @@
 // which is lent as records of 8 bytes.
 #![tactic(auto)]
 
-ghost use Rattle.std.specs.Prelude.{◌≡◌, true, cond, ◌<◌, ◌≤◌, ltb, pos, nat_abs, ◌+ℤ◌};
-ghost use Rattle.std.proofs.Math.Option.{none, some};
-ghost use Rattle.refusals.specs.Told.{fine};
-ghost use Rattle.refusals.specs.Verdict.{fault_of};
+ghost use Rattle.std.specs.Prelude.{◌≡◌, true, ◌<◌, ◌≤◌, pos, nat_abs, ◌+ℤ◌, IfSome};
+ghost use Rattle.refusals.specs.Told.{judged};
 ghost use Rattle.ranges.specs.Table.{temperature_ok};
-ghost use Rattle.octets.specs.FirstToLast.{scan};
+ghost use Rattle.octets.specs.FirstToLast.{scan, first_place};
 ghost use Rattle.lookup.specs.HalfDegree.{half_degree};
-ghost use Rattle.lookup.specs.Table.{entry_at, entry_ok};
-ghost use Rattle.lookup.specs.Rank.{rank_at, rank_asked, Sought};
-ghost use Rattle.lookup.specs.Answers.{told, entry_fault, record_found, look_up_of};
+ghost use Rattle.lookup.specs.Table.{entry_at, entry_ok, record_ok};
+ghost use Rattle.lookup.specs.Pair.{asked_ok};
+ghost use Rattle.lookup.specs.Rank.{rank_if, rank_at, rank_asked, is_wanted};
+ghost use Rattle.lookup.specs.Answers.{entry_fault, record_found, look_up_of};
+ghost use Rattle.refusals.specs.Answered.{told};
 
-use refusals::{Refusal, Verdict};
+use refusals::Refusal;
 
 // A record of the table: temperature in 0.1 °F, gravity in 0.1 °API, F in 10^-8 per psi.
 #[derive(Clone, Copy)]
@@ -21,20 +21,6 @@ pub struct Entry {
     pub temperature: i16,
     pub gravity: u16,
     pub compressibility: u16,
-}
-
-#[derive(Clone, Copy)]
-pub enum LookUp {
-    Found(Entry),
-    Refused(Refusal),
-}
-
-// What the pass over a table finds: a record at fault, or none and the place of the pair; as many as
-// there are records where none has it.
-#[derive(Clone, Copy)]
-struct Pass {
-    verdict: Verdict,
-    place: usize,
 }
 
 // The record numbered i, from 0, of at most 4,096.
@@ -71,16 +57,16 @@ fn is_entry(entry: Entry) -> bool
     false
 }
 
-// One number of a record, which rises by gravity and then temperature; 0 of a faulty record.
-fn rank_at(s: &[u8], i: usize) -> u64
+// One number of a record, which rises by gravity and then temperature; none of a faulty record.
+fn rank_at(s: &[u8], i: usize) -> Option<u64>
     requires { i < 4096 }
-    ensures { result ≡ rank_at s.now i }
+    ensures { result ≡ rank_if (record_ok s.now i) (rank_at s.now i) }
 {
     let entry = decode(s, i);
     if is_entry(entry) & (octets::word_at(s, 8 * i + 6) == 0) {
-        return 4096 * entry.gravity as u64 + count_up(entry.temperature);
+        return Some(4096 * entry.gravity as u64 + count_up(entry.temperature));
     }
-    0
+    None
 }
 
 // Tenths to the nearest half degree.
@@ -91,72 +77,56 @@ fn round_to_half(tenths: u64) -> u64
     (tenths + 2) / 5 * 5
 }
 
-// The same number of the pair that is asked for; 0 where temperature or gravity is out of range.
-fn rank_asked(temperature: i16, gravity: u16) -> u64
-    ensures { result ≡ rank_asked temperature gravity }
+// The same number of the pair that is asked for; none where temperature or gravity is out of range.
+fn rank_asked(temperature: i16, gravity: u16) -> Option<u64>
+    ensures { result ≡ rank_if (asked_ok temperature gravity) (rank_asked temperature gravity) }
 {
     let asked = gravity as u64;
     if ranges::is_temperature(temperature) & ranges::is_gravity(asked) {
-        return 4096 * round_to_half(asked) + round_to_half(count_up(temperature));
+        return Some(4096 * round_to_half(asked) + round_to_half(count_up(temperature)));
     }
-    0
+    None
 }
 
 // One pass: each record is judged by itself and by the one before it, and held against the one wanted.
-fn pass_over(s: &[u8], entries: usize, wanted: u64) -> Pass
+fn pass_over(s: &[u8], entries: usize, wanted: Option<u64>) -> Result<Option<usize>, Refusal>
     requires { entries ≤ 4096 }
-    ensures { (fault_of result.verdict ≡ scan (entry_fault s.now) entries 0) × (scan (entry_fault s.now) entries 0 ≡ fine → Sought s.now entries wanted result.place) }
+    ensures { told result ≡ judged (scan (entry_fault s.now) entries 0) (first_place (is_wanted s.now wanted) entries 0) }
 {
+    // Every record's number is above 0.
     let mut before = 0;
-    let mut place = entries;
-    let mut i = 0;
-    while i < entries {
-        let rank = rank_at(s, i);
-        if rank <= before {
-            return Pass {
-                verdict: Verdict::Refused(Refusal::TableRecord((i + 1) as u16)),
-                place,
-            };
-        }
-        if rank == wanted {
-            place = i;
+    let mut place = None;
+    for i in 0..entries {
+        let fault = Refusal::TableRecord((i + 1) as u16);
+        let rank = rank_at(s, i).ok_or(fault)?;
+        refusals::demand(before < rank, fault)?;
+        if wanted == Some(rank) {
+            place = Some(i);
         }
         before = rank;
-        i += 1;
     }
-    Pass {
-        verdict: Verdict::Fine,
-        place,
-    }
+    Ok(place)
 }
 
 // The record at a place, or that there is none.
-fn answer(s: &[u8], entries: usize, place: usize) -> LookUp
-    requires { entries ≤ 4096 }
-    ensures { told result ≡ record_found s.now (cond (ltb place entries) (some place) none) }
+fn answer(s: &[u8], place: Option<usize>) -> Result<Entry, Refusal>
+    requires { IfSome place (λ i. i < 4096) }
+    ensures { told result ≡ record_found s.now place }
 {
-    if place < entries {
-        LookUp::Found(decode(s, place))
-    } else {
-        LookUp::Refused(Refusal::NoSuchPair)
-    }
+    let place = place.ok_or(Refusal::NoSuchPair)?;
+    Ok(decode(s, place))
 }
 
 // The record with the pair, temperature in 0.1 °F and gravity in 0.1 °API, each taken to the nearest half degree.
-pub fn look_up(temperature: i16, gravity: u16, table: &[u8]) -> LookUp
+pub fn look_up(temperature: i16, gravity: u16, table: &[u8]) -> Result<Entry, Refusal>
     ensures { told result ≡ look_up_of temperature gravity table.now }
 {
     let entries = table.len() / 8;
-    if (table.len() % 8 == 0) & ranges::are_entries(entries as u64) {
-        let wanted = rank_asked(temperature, gravity);
-        let pass = pass_over(table, entries, wanted);
-        // The whole table is judged before the numbers asked.
-        let records = pass.verdict;
-        let asked = refusals::demand(0 < wanted, Refusal::ReadingRange);
-        return match refusals::or_else(records, asked) {
-            Verdict::Fine => answer(table, entries, pass.place),
-            Verdict::Refused(refusal) => LookUp::Refused(refusal),
-        };
-    }
-    LookUp::Refused(Refusal::Records)
+    let whole = (table.len() % 8 == 0) & ranges::are_entries(entries as u64);
+    refusals::demand(whole, Refusal::Records)?;
+    let wanted = rank_asked(temperature, gravity);
+    // The whole table is judged before the numbers asked.
+    let place = pass_over(table, entries, wanted)?;
+    wanted.ok_or(Refusal::ReadingRange)?;
+    answer(table, place)
 }

@@ -17,7 +17,7 @@ use Rattle.octets.proofs.Laws.{length_bytes, written_both}
 use Rattle.octets.proofs.FirstToLast.{faults, empty}
 use Rattle.octets.proofs.Joined.{joined_length}
 use Rattle.refusals.specs.Told.{Fault, fine, fault, demand, or_else}
-use Rattle.refusals.proofs.Laws.{refusal_one, done_one, refused_number, refused_record, demand_was, demand_at_was, or_else_fine_first, or_else_fine_next}
+use Rattle.refusals.proofs.Laws.{demand_was, demand_at_was, or_else_fine_first, or_else_fine_next}
 use Rattle.ranges.specs.Table.{moved_ok}
 use Rattle.ranges.proofs.Laws.{both_first, both_second, within_low, within_high}
 use Rattle.run.specs.Record.{size_of, run_from, fields_from, run_at, run_ok}
@@ -27,9 +27,6 @@ use Rattle.run.proofs.Laws.{run_fits}
 use Rattle.run.specs.Answers.{record_fault}
 use Rattle.moving.specs.Moved.{lengthened, shortened, other, moved_at, moved_bytes}
 use Rattle.moving.specs.Judging.{lengths_ok, buffer_ok, is_whole, move_fault, move_faults}
-use Rattle.moving.specs.Answers.{told}
-use Rattle.moving.specs.declared.Moved.{Moved as Answer}
-use Rattle.moving.specs.declared.Moved.TheVariants.{Records, Refused}
 
 -- 28 bytes of a list that has them
 pub part_length : (s : List ℕ) (at : ℕ) → at + 28 ≤ length s → length (take 28 (drop at s)) ≡ 28
@@ -120,6 +117,11 @@ unfolding lengths_ok
 other_size Short n size is ok = omega (arith, eqb-true (2 * size) (3 * n) ok)
 other_size Long n size is ok = omega (arith, eqb-true (2 * n) (3 * size) ok)
 
+-- 1 does not apply: no more records than may be moved
+pub few_moved : (form : Form) (s : List ℕ) → demand (are_records moved_ok (size_of form) (length s)) 1 ≡ fine → length s / size_of form ≤ 4096
+unfolding are_records moved_ok
+few_moved form s clear = within_high 1 4096 (length s / size_of form) (both_second (eqb (length s % size_of form) 0) _ (demand_was _ 1 clear))
+
 pub lent : (form : Form) (s : List ℕ) (size : ℕ) → lent_fault form s size ≡ fine → Lent form s size
 unfolding are_records moved_ok records_in
 lent form s size clear =
@@ -155,10 +157,3 @@ movable form s size is =
 pub short_whole : (s : List ℕ) (i : ℕ) → is_whole (run_at Short s i).pulses ≡ true
 unfolding is_whole run_at run_from fields_from
 short_whole s i = eq-eqb (long_at s (32 * i) * 1000 % 1000) 0 (omega arith)
-
--- `told` loses nothing
-pub told_one : (a b : Answer) → told a ≡ told b → a ≡ b
-told_one (Records n) (Records m) is = ap Records (done_one is)
-told_one (Records n) (Refused refusal) is = cc
-told_one (Refused refusal) (Records n) is = cc
-told_one (Refused refusal) (Refused other) is = ap Refused (refusal_one refusal other (refused_number {A = ℕ} is) (refused_record {A = ℕ} is))

@@ -1,27 +1,20 @@
 // Run records moved between their two forms (02, 'Longer run records, and the way back'), over lent buffers: forward from 32 bytes to 48,
 // and back. Every record is judged before any byte is written.
+// Form and bytes stay two parameters: `run` reads a record by both, so that a pair of them would be taken apart at each call.
 #![tactic(auto)]
 
 ghost use Rattle.std.specs.Prelude.{◌≡◌, true, ℕ, ◌+◌, ◌*◌, ◌<◌, ◌≤◌, length};
 ghost use Rattle.refusals.specs.Told.{left_by};
-ghost use Rattle.refusals.specs.Verdict.{fault_of};
 ghost use Rattle.octets.specs.FirstToLast.{scan};
 ghost use Rattle.octets.specs.Octets.{quad_at, written_at};
 ghost use Rattle.run.specs.Record.{size_of, run_at, run_ok};
 ghost use Rattle.run.specs.declared.Form.TheVariants.{Short, Long};
 ghost use Rattle.moving.specs.Moved.{lengthened, shortened, other, moved_at, moved_bytes};
 ghost use Rattle.moving.specs.Judging.{lengths_ok, buffer_ok, move_fault, move_faults, move_of};
-ghost use Rattle.moving.specs.Answers.{told};
+ghost use Rattle.refusals.specs.Answered.{fault_of, told};
 
-use refusals::{Refusal, Verdict};
+use refusals::Refusal;
 use run::Form;
-
-#[derive(Clone, Copy)]
-pub enum Moved {
-    // how many
-    Records(u16),
-    Refused(Refusal),
-}
 
 // Twice the longer form's length is three times the shorter form's; where they are large the products might not fit.
 fn are_lengths(long: usize, short: usize) -> bool
@@ -41,49 +34,36 @@ fn is_buffer(form: Form, lent: usize, size: usize) -> bool
 }
 
 // 5, 2 and 36 of one record, counted from 0.
-fn judge_record(form: Form, records: &[u8], i: usize) -> Verdict
+fn judge_record(form: Form, records: &[u8], i: usize) -> Result<(), Refusal>
     requires { i < 4096 }
     ensures { fault_of result ≡ move_fault form records.now i }
 {
     let number = (i + 1) as u16;
     let run = run::records::decode(form, records, i);
-    let own = run::records::judge_record(form, records, i, number);
-    let whole = refusals::demand(run.pulses % 1000 == 0, Refusal::NotWhole(number));
-    refusals::or_else(own, whole)
+    run::records::judge_record(form, records, i, number)?;
+    refusals::demand(run.pulses % 1000 == 0, Refusal::NotWhole(number))
 }
 
 // The records, first to last.
-fn judge_records(form: Form, records: &[u8], count: usize) -> Verdict
+fn judge_records(form: Form, records: &[u8], count: usize) -> Result<(), Refusal>
     requires { count ≤ 4096 }
     ensures { fault_of result ≡ scan (move_fault form records.now) count 0 }
 {
-    let mut i: usize = 0;
-    while i < count {
-        let verdict = judge_record(form, records, i);
-        let Verdict::Fine = verdict else {
-            return verdict;
-        };
-        i += 1;
+    for i in 0..count {
+        judge_record(form, records, i)?;
     }
-    Verdict::Fine
+    Ok(())
 }
 
 // 14, 1, and then the records; `size` is the buffer's.
-fn judge(form: Form, records: &[u8], size: usize) -> Verdict
+fn judge(form: Form, records: &[u8], size: usize) -> Result<(), Refusal>
     ensures { fault_of result ≡ move_faults form records.now size }
 {
     let lent = records.len();
     let one = run::records::size(form);
-    let verdict = refusals::or_else(
-        refusals::demand(is_buffer(form, lent, size), Refusal::ReportBuffer),
-        refusals::demand(
-            (lent % one == 0) & ranges::are_moved((lent / one) as u64),
-            Refusal::Records,
-        ),
-    );
-    let Verdict::Fine = verdict else {
-        return verdict;
-    };
+    refusals::demand(is_buffer(form, lent, size), Refusal::ReportBuffer)?;
+    let whole = (lent % one == 0) & ranges::are_moved((lent / one) as u64);
+    refusals::demand(whole, Refusal::Records)?;
     judge_records(form, records, lent / one)
 }
 
@@ -129,31 +109,24 @@ fn write_all(form: Form, records: &[u8], count: usize, buffer: &mut [u8])
     requires { (count ≤ 4096) × (length records.now ≡ size_of form * count) × (length buffer.old ≡ size_of (other form) * count) × ((i : ℕ) → i < count → run_ok (run_at form records.now i) ≡ true) }
     ensures { buffer.new ≡ moved_bytes form records.now count }
 {
-    let mut moved: usize = 0;
-    while moved < count {
-        rewrite(form, records, moved, buffer);
-        moved += 1;
+    for place in 0..count {
+        rewrite(form, records, place, buffer);
     }
 }
 
 // All that is lent, from its form to the other, or every byte of the buffer left as found.
-fn move_records(form: Form, records: &[u8], buffer: &mut [u8]) -> Moved
+fn move_records(form: Form, records: &[u8], buffer: &mut [u8]) -> Result<u16, Refusal>
     ensures answer { told result ≡ move_of form records.now (length buffer.old) }
     ensures left { buffer.new ≡ left_by (move_of form records.now (length buffer.old)) (moved_bytes form records.now) buffer.old }
 {
-    let verdict = judge(form, records, buffer.len());
-    match verdict {
-        Verdict::Fine => {
-            let count = records.len() / run::records::size(form);
-            write_all(form, records, count, buffer);
-            Moved::Records(count as u16)
-        }
-        Verdict::Refused(refusal) => Moved::Refused(refusal),
-    }
+    judge(form, records, buffer.len())?;
+    let count = records.len() / run::records::size(form);
+    write_all(form, records, count, buffer);
+    Ok(count as u16)
 }
 
 // Short records into the long form: nothing is lost.
-pub fn forward(records: &[u8], buffer: &mut [u8]) -> Moved
+pub fn forward(records: &[u8], buffer: &mut [u8]) -> Result<u16, Refusal>
     ensures answer { told result ≡ move_of Short records.now (length buffer.old) }
     ensures left { buffer.new ≡ left_by (move_of Short records.now (length buffer.old)) (moved_bytes Short records.now) buffer.old }
 {
@@ -161,7 +134,7 @@ pub fn forward(records: &[u8], buffer: &mut [u8]) -> Moved
 }
 
 // Long records into the short form, where every count is whole.
-pub fn back(records: &[u8], buffer: &mut [u8]) -> Moved
+pub fn back(records: &[u8], buffer: &mut [u8]) -> Result<u16, Refusal>
     ensures answer { told result ≡ move_of Long records.now (length buffer.old) }
     ensures left { buffer.new ≡ left_by (move_of Long records.now (length buffer.old)) (moved_bytes Long records.now) buffer.old }
 {

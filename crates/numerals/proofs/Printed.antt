@@ -1,8 +1,8 @@
 -- A printed number: the digits that `io` spells are the definition's, and they read back as the number.
+use Rattle.std.specs.Prelude.{Option, None, Some}
 use mathlib.Core.Path.{◌≡◌, refl, ap, ◌∙◌}
 use mathlib.Core.Bool.{Bool, true, false, cond, and-false}
 use mathlib.Core.List.{List, [], ◌∷◌, ◌++◌}
-use mathlib.Core.Option.{Option, none, some}
 use Prim.Native.Nat.{ℕ, zero, suc, ◌+◌, ◌*◌, ◌-◌, ◌/◌, ◌%◌, ◌^◌, ◌≤◌, ◌<◌}
 use native.Mathlib.Omega.{arith}
 use native.Mathlib.Nat.{pow-suc, one-le-pow, pow-le-pow_right, lt_of_not-le}
@@ -12,7 +12,7 @@ use lib.Dec.{leb, ltb}
 use lib.ListN.{length, get_or, length-append, get_or-append}
 use Rattle.io.specs.Digits.{last_digits, IsDigitCount}
 use Rattle.numerals.specs.Numbers.{digit_of, go_on, digits_to, printed, is_ill_led, whole_of, number_of, up_to}
-use Rattle.numerals.proofs.Numbers.{digit_is, well_led, small_enough}
+use Rattle.numerals.proofs.Numbers.{well_led, small_enough}
 
 pub fewest : (k r n : ℕ) → IsDigitCount 10 1 n r → r ≤ k → last_digits 10 r n ≡ digits_to k n
 unfolding digits_to
@@ -36,10 +36,10 @@ fewest (suc k) (suc (suc r)) n f h =
     (ap (λ (l : List ℕ). l ++ ((48 + n % 10) ∷ [])) (fewest k (suc r) (n / 10) rest (omega arith)))
 
 abbrev then_on : Option ℕ → List ℕ → Option ℕ
-then_on none w = none
-then_on (some v) w = go_on v w
+then_on None w = None
+then_on (Some v) w = go_on v w
 
-pick_on : (q : Bool) (x : Option ℕ) (w : List ℕ) → cond q (then_on x w) none ≡ then_on (cond q x none) w
+pick_on : (q : Bool) (x : Option ℕ) (w : List ℕ) → cond q (then_on x w) None ≡ then_on (cond q x None) w
 pick_on true x w = refl
 pick_on false x w = refl
 
@@ -49,35 +49,36 @@ go_append v [] u = refl
 go_append v (b ∷ w) u = rw (go_append (10 * v + digit_of b) w u) (pick_on (leb (digit_of b) 9) (go_on (10 * v + digit_of b) w) u)
 
 digit_back : (d : ℕ) → d ≤ 9 → digit_of (48 + d) ≡ d
-digit_back d h = let e : 48 + d - 48 ≡ d = omega arith in digit_is (48 + d) (omega arith) (omega arith) ∙ e
+unfolding digit_of
+digit_back d h = let e : 48 + d - 48 ≡ d = omega arith in rw (le-leb 48 (48 + d) (omega arith), le-leb (48 + d) 57 (omega arith)) e
 
-last_digit : (v d : ℕ) → d ≤ 9 → go_on v ((48 + d) ∷ []) ≡ some (10 * v + d)
+last_digit : (v d : ℕ) → d ≤ 9 → go_on v ((48 + d) ∷ []) ≡ Some (10 * v + d)
 unfolding go_on
 last_digit v d h = rw (digit_back d h, le-leb d 9 h)
 
 not-below : {n m : ℕ} → (n < m → ⊥) → m ≤ n
 not-below {n} {m} h = let l : m < suc n = lt_of_not-le h in omega arith
 
-go_none : go_on 0 [] ≡ some 0
+go_none : go_on 0 [] ≡ Some 0
 unfolding go_on
 go_none = refl
 
 -- the digits of a number go on from nothing to the number
-pub digits_back : (k n : ℕ) → n < 10 ^ k → go_on 0 (digits_to k n) ≡ some n
+pub digits_back : (k n : ℕ) → n < 10 ^ k → go_on 0 (digits_to k n) ≡ Some n
 unfolding digits_to
-digits_back zero n h = let e : 0 ≡ n = omega arith in go_none ∙ ap some e
+digits_back zero n h = let e : 0 ≡ n = omega arith in go_none ∙ ap Some e
 digits_back (suc k) n h = by (dec_lt n 10) (digits_back k (n / 10))
   where
-    by : Dec (n < 10) → (n / 10 < 10 ^ k → go_on 0 (digits_to k (n / 10)) ≡ some (n / 10)) → go_on 0 (cond (ltb n 10) ((48 + n) ∷ []) (digits_to k (n / 10) ++ ((48 + n % 10) ∷ []))) ≡ some n
+    by : Dec (n < 10) → (n / 10 < 10 ^ k → go_on 0 (digits_to k (n / 10)) ≡ Some (n / 10)) → go_on 0 (cond (ltb n 10) ((48 + n) ∷ []) (digits_to k (n / 10) ++ ((48 + n % 10) ∷ []))) ≡ Some n
     by (yes low) back =
         let e : 10 * 0 + n ≡ n = omega arith in
-        rw (lt-ltb n 10 low) (last_digit 0 n (omega arith) ∙ ap some e)
+        rw (lt-ltb n 10 low) (last_digit 0 n (omega arith) ∙ ap Some e)
     by (no high) back =
         let up : 10 ^ suc k ≡ 10 ^ k * 10 = pow-suc 10 k in
         let e : 10 * (n / 10) + n % 10 ≡ n = omega arith in
         let least : 10 ≤ n = not-below high in
         rw (le-ltb n 10 least)
-        (go_append 0 (digits_to k (n / 10)) ((48 + n % 10) ∷ []) ∙ ap (λ (x : Option ℕ). then_on x ((48 + n % 10) ∷ [])) (back (omega arith)) ∙ last_digit (n / 10) (n % 10) (omega arith) ∙ ap some e)
+        (go_append 0 (digits_to k (n / 10)) ((48 + n % 10) ∷ []) ∙ ap (λ (x : Option ℕ). then_on x ((48 + n % 10) ∷ [])) (back (omega arith)) ∙ last_digit (n / 10) (n % 10) (omega arith) ∙ ap Some e)
 
 twenty : (r n : ℕ) → IsDigitCount 10 1 n r → n < 10 ^ 20 → r ≤ 20
 twenty r n f h = by (dec_lt 20 r)
@@ -125,11 +126,11 @@ well_spelt (suc n) h =
     rw (ne_eqb (length w) 0 (λ e. omega (arith, f.1)), ne_eqb (get_or w 0 0) 48 (λ e. omega (arith, f.0))) (and-false (ltb 1 (length w)))
 
 -- a printed number reads back as itself
-pub reads_back : (n : ℕ) → n < 10 ^ 20 → whole_of (printed n) ≡ some n
+pub reads_back : (n : ℕ) → n < 10 ^ 20 → whole_of (printed n) ≡ Some n
 unfolding printed
 reads_back n h = well_led (printed n) (well_spelt n h) ∙ digits_back 20 n h
 
 -- and so does one that its operand holds
-pub operand_back : (most n : ℕ) → n < 10 ^ 20 → n ≤ most → number_of most (printed n) ≡ some n
+pub operand_back : (most n : ℕ) → n < 10 ^ 20 → n ≤ most → number_of most (printed n) ≡ Some n
 unfolding number_of
 operand_back most n h l = ap (up_to most) (reads_back n h) ∙ small_enough most n l

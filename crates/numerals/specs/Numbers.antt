@@ -1,10 +1,5 @@
 -- docs/LINES.md: 'Numbers are decimal, with `-` before a negative one.' `0` is byte 48 and `-` byte 45.
-use Rattle.std.specs.Prelude.{Bool, cond, ◌&&◌, ◌||◌, List, [], ◌∷◌, ◌++◌, ℕ, zero, suc, ◌+◌, ◌*◌, ◌-◌, ◌/◌, ◌%◌, leb, ltb, eqb, ℤ, pos, negsuc, length, get_or, drop}
-use Rattle.std.proofs.Math.Option.{Option, none, some}
-use Rattle.numerals.specs.declared.Number.{Number}
-use Rattle.numerals.specs.declared.Number.TheVariants.{Value, Malformed}
-use Rattle.numerals.specs.declared.Signed.{Signed}
-use Rattle.numerals.specs.declared.Signed.TheVariants as signed
+use Rattle.std.specs.Prelude.{Bool, cond, ◌&&◌, ◌||◌, List, [], ◌∷◌, ◌++◌, ℕ, zero, suc, ◌+◌, ◌*◌, ◌-◌, ◌/◌, ◌%◌, leb, ltb, eqb, ℤ, pos, negsuc, length, get_or, drop, Some, None, Option}
 
 -- a digit's number; 10 for any other byte
 unfoldable pub digit_of : ℕ → ℕ
@@ -12,8 +7,8 @@ digit_of b = cond (leb 48 b && leb b 57) (b - 48) 10
 
 -- the number that digits make behind a number so far; none where a byte is no digit
 unfoldable pub go_on : ℕ → List ℕ → Option ℕ
-go_on v [] = some v
-go_on v (b ∷ w) = cond (leb (digit_of b) 9) (go_on (10 * v + digit_of b) w) none
+go_on v [] = Some v
+go_on v (b ∷ w) = cond (leb (digit_of b) 9) (go_on (10 * v + digit_of b) w) None
 
 -- no byte at all, or a zero before further digits
 unfoldable pub is_ill_led : List ℕ → Bool
@@ -21,37 +16,29 @@ is_ill_led w = eqb (length w) 0 || (ltb 1 (length w) && eqb (get_or w 0 0) 48)
 
 -- '`0`, or a digit 1 to 9 followed by digits'
 unfoldable pub whole_of : List ℕ → Option ℕ
-whole_of w = cond (is_ill_led w) none (go_on 0 w)
+whole_of w = cond (is_ill_led w) None (go_on 0 w)
 
 -- the number, where it is at most the most that its operand's type holds
 unfoldable pub up_to : ℕ → Option ℕ → Option ℕ
-up_to most none = none
-up_to most (some v) = cond (leb v most) (some v) none
+up_to most None = None
+up_to most (Some v) = cond (leb v most) (Some v) None
 
 unfoldable pub number_of : ℕ → List ℕ → Option ℕ
 number_of most w = up_to most (whole_of w)
 
 -- 'a `-` may stand before one that is not zero'
 unfoldable pub negated : Option ℕ → Option ℤ
-negated none = none
-negated (some zero) = none
-negated (some (suc k)) = some (negsuc k)
+negated None = None
+negated (Some zero) = None
+negated (Some (suc k)) = Some (negsuc k)
 
 unfoldable pub as_it_is : Option ℕ → Option ℤ
-as_it_is none = none
-as_it_is (some v) = some (pos v)
+as_it_is None = None
+as_it_is (Some v) = Some (pos v)
 
 -- 16 bits with a sign
 unfoldable pub signed_of : List ℕ → Option ℤ
 signed_of w = cond (eqb (get_or w 0 0) 45) (negated (number_of 32768 (drop 1 w))) (as_it_is (number_of 32767 w))
-
-unfoldable pub told : Number → Option ℕ
-told (Value v) = some v
-told Malformed = none
-
-unfoldable pub told_signed : Signed → Option ℤ
-told_signed (signed.Value v) = some v
-told_signed signed.Malformed = none
 
 -- a number's decimal digits, the fewest that hold it, of at most k
 unfoldable pub digits_to : ℕ → ℕ → List ℕ

@@ -1,112 +1,72 @@
 // The line program's decimal numbers (docs/LINES.md), read and printed.
 #![tactic(auto)]
 
-ghost use Rattle.std.specs.Prelude.{◌≡◌, ◌≤◌, nat_abs, drop};
-ghost use Rattle.std.proofs.Math.Option.{some};
+ghost use Rattle.std.specs.Prelude.{◌≡◌, ◌≤◌, Some};
 ghost use Rattle.octets.specs.Octets.{written_at};
 ghost use Rattle.words.specs.Written.{place_after};
-ghost use Rattle.numerals.specs.Numbers.{digit_of, is_ill_led, number_of, negated, signed_of, told, told_signed, printed};
+ghost use Rattle.numerals.specs.Numbers.{digit_of, up_to, is_ill_led, number_of, negated, signed_of, printed};
 ghost use Rattle.numerals.specs.Printed.{place_after_signed, written_signed};
 
-use octets::byte_at;
-
-#[derive(Drop)]
-pub enum Number {
-    Value(u64),
-    Malformed,
-}
-
-#[derive(Drop)]
-pub enum Signed {
-    Value(i16),
-    Malformed,
-}
-
-// A decimal digit, or 10 where the byte is none.
-fn value_digit(byte: u8) -> u64
-    ensures { (result ≡ digit_of byte) × (result ≤ 10) }
+// A decimal digit's number.
+#[tactic(auto, unfolding(crate::specs::Numbers::digit_of, crate::specs::Numbers::up_to))]
+fn value_digit(byte: u8) -> Option<u64>
+    ensures { result ≡ up_to 9 (Some (digit_of byte)) }
 {
-    if 48 <= byte {
-        if byte <= 57 {
-            return (byte - 48) as u64;
-        }
+    match byte {
+        b'0'..=b'9' => Some((byte - b'0') as u64),
+        _ => None,
     }
-    10
 }
 
 // No byte at all, or a zero before further digits.
+#[tactic(auto, unfolding(crate::specs::Numbers::is_ill_led))]
 fn is_ill_led(word: &[u8]) -> bool
     ensures { result ≡ is_ill_led word.now }
 {
-    (word.len() == 0) | ((1 < word.len()) & (byte_at(word, 0) == 48))
+    matches!(word, [] | [b'0', _, ..])
 }
 
-// A whole number without leading zeros, up to the most that its operand holds. Whether one digit more
-// still is at most that is asked before it is added, since the sum may pass 64 bits.
-pub fn read_number(word: &[u8], most: u64) -> Number
-    ensures { told result ≡ number_of most word.now }
+// A whole number without leading zeros, up to the most that its operand holds.
+#[tactic(auto, using(crate::proofs::Numbers::read))]
+pub fn read_number(word: &[u8], most: u64) -> Option<u64>
+    ensures { result ≡ number_of most word.now }
 {
     if is_ill_led(word) {
-        return Number::Malformed;
+        return None;
     }
     let mut value: u64 = 0;
-    let mut i = 0;
-    while i < word.len() {
-        let digit = value_digit(word[i]);
-        if 9 < digit {
-            return Number::Malformed;
-        }
-        if most / 10 < value {
-            return Number::Malformed;
-        }
-        if most - 10 * value < digit {
-            return Number::Malformed;
-        }
-        value = 10 * value + digit;
-        i += 1;
+    for byte in word {
+        let digit = value_digit(*byte)?;
+        value = value.checked_mul(10)?.checked_add(digit)?;
     }
-    Number::Value(value)
-}
-
-fn pass_first<'a>(word: &'a [u8]) -> &'a [u8]
-    ensures { result.now ≡ drop 1 word.now }
-{
-    if 0 < word.len() {
-        &word[1..]
-    } else {
-        &word[..0]
-    }
+    if most < value { None } else { Some(value) }
 }
 
 // No `-` stands before zero, and -32,768 is the least of 16 bits.
-fn negate(size: u64) -> Signed
+#[tactic(auto, unfolding(crate::specs::Numbers::negated))]
+fn negate(size: u64) -> Option<i16>
     requires { size ≤ 32768 }
-    ensures { told_signed result ≡ negated (some size) }
+    ensures { result ≡ negated (Some size) }
 {
     if size == 0 {
-        return Signed::Malformed;
+        None
+    } else {
+        Some(-(size as i32) as i16)
     }
-    Signed::Value(!((size - 1) as i16))
 }
 
 // A whole number of 16 bits with a sign: `-` stands before one that is not zero.
-pub fn read_signed(word: &[u8]) -> Signed
-    ensures { told_signed result ≡ signed_of word.now }
+#[tactic(auto, using(crate::proofs::Numbers::signed), unfolding(crate::specs::Numbers::as_it_is))]
+pub fn read_signed(word: &[u8]) -> Option<i16>
+    ensures { result ≡ signed_of word.now }
 {
-    if byte_at(word, 0) == 45 {
-        let below = read_number(pass_first(word), 32768);
-        return match below {
-            Number::Value(size) => negate(size),
-            Number::Malformed => Signed::Malformed,
-        };
+    if word.starts_with(b"-") {
+        return negate(read_number(&word[1..], 32768)?);
     }
-    let number = read_number(word, 32767);
-    match number {
-        Number::Value(size) => Signed::Value(size as i16),
-        Number::Malformed => Signed::Malformed,
-    }
+    Some(read_number(word, 32767)? as i16)
 }
 
+#[tactic(auto, using(crate::proofs::Printed::spelt))]
 pub fn write_number(n: u64, out: &mut [u8], at: usize) -> usize
     ensures place { result ≡ place_after out.old at (printed n) }
     ensures left { out.new ≡ written_at out.old at (printed n) }
@@ -116,23 +76,14 @@ pub fn write_number(n: u64, out: &mut [u8], at: usize) -> usize
     words::write_text(&digits[..count], out, at)
 }
 
-// How far a number is from zero.
-fn measure(n: i16) -> u64
-    ensures { result ≡ nat_abs n }
-{
-    if 0 <= n {
-        return n as u64;
-    }
-    (!n) as u64 + 1
-}
-
 pub fn write_signed(n: i16, out: &mut [u8], at: usize) -> usize
     ensures place { result ≡ place_after_signed out.old at n }
     ensures left { out.new ≡ written_signed out.old at n }
 {
+    let size = n.unsigned_abs() as u64;
     if 0 <= n {
-        return write_number(measure(n), out, at);
+        return write_number(size, out, at);
     }
     let next = words::write_text(b"-", out, at);
-    write_number(measure(n), out, next)
+    write_number(size, out, next)
 }

@@ -1,14 +1,14 @@
 -- The laws of 'first to last', once for every kind of search. A search for x of which the places below i have been
 -- passed stands at `x ≡ first_to_last or nothing f (n - i) i`, n being one past the last place: the invariant of every loop.
+use Rattle.std.specs.Prelude.{Option, None, Some}
 use mathlib.Core.Path.{◌≡◌, refl, sym, ◌∙◌, ap}
 use mathlib.Core.Logic.{◌⊎◌, inl, inr, ⊎_elim}
 use mathlib.Core.Bool.{Bool, true, false, ◌&&◌, cond}
-use mathlib.Core.Option.{Option, none, some}
 use Prim.Native.Nat.{ℕ, zero, suc, ◌+◌, ◌-◌, ◌≤◌, ◌<◌}
 use native.Mathlib.Nat.{sub-zero, sub-eq-zero_of_le, eq-or-lt_of_le}
 use native.Mathlib.Omega.{arith}
 use Rattle.refusals.specs.Told.{Fault, fine, fault, or_else}
-use Rattle.octets.specs.FirstToLast.{first_to_last, scan, holds_all, or_next, place_if, first_place}
+use Rattle.octets.specs.FirstToLast.{first_to_last, scan, or_next, place_if, first_place}
 
 -- what makes `or` a search: `nothing` passes to the next place, and anything else ends it
 pub record Search {A : Type 0} (or : A → A → A) (nothing : A) : Type 0 where
@@ -148,39 +148,36 @@ test_ends false = inr (λ y. refl)
 pub tests : Search ◌&&◌ true
 tests = record { passes = λ y. refl; ends = test_ends }
 
-pub all_hit : {x : Bool} (test : ℕ → Bool) (n i : ℕ) → i < n → test i ≡ false → x ≡ holds_all test (n - i) i → x ≡ false
-all_hit test n i h is at = hit tests test n i h (rw is (λ y. refl)) at ∙ is
-
 -- ---- the first place that passes a test
 
-place_ends : (x : Option ℕ) → (x ≡ none) ⊎ ((y : Option ℕ) → or_next x y ≡ x)
-place_ends none = inl refl
-place_ends (some k) = inr (λ y. refl)
+place_ends : (x : Option ℕ) → (x ≡ None) ⊎ ((y : Option ℕ) → or_next x y ≡ x)
+place_ends None = inl refl
+place_ends (Some k) = inr (λ y. refl)
 
-pub places : Search or_next none
+pub places : Search or_next None
 places = record { passes = λ y. refl; ends = place_ends }
 
-pub place_yes : (test : ℕ → Bool) (k : ℕ) → test k ≡ true → place_if test k ≡ some k
+pub place_yes : (test : ℕ → Bool) (k : ℕ) → test k ≡ true → place_if test k ≡ Some k
 unfolding place_if
 place_yes test k is = rw is
 
-pub place_no : (test : ℕ → Bool) (k : ℕ) → test k ≡ false → place_if test k ≡ none
+pub place_no : (test : ℕ → Bool) (k : ℕ) → test k ≡ false → place_if test k ≡ None
 unfolding place_if
 place_no test k is = rw is
 
 -- a place is given exactly by a test that holds there
-given_yes : (b : Bool) (p k : ℕ) → ◌≡◌ {A = Option ℕ} (cond b (some p) none) (some k) → (b ≡ true) × (p ≡ k)
+given_yes : (b : Bool) (p k : ℕ) → ◌≡◌ {A = Option ℕ} (cond b (Some p) None) (Some k) → (b ≡ true) × (p ≡ k)
 given_yes true p k is = (refl, (cc))
 given_yes false p k is = ((cc), (cc))
 
-given_no : (b : Bool) (p : ℕ) → ◌≡◌ {A = Option ℕ} (cond b (some p) none) none → b ≡ false
+given_no : (b : Bool) (p : ℕ) → ◌≡◌ {A = Option ℕ} (cond b (Some p) None) None → b ≡ false
 given_no true p is = cc
 given_no false p is = refl
 
 pub place_next : {x : Option ℕ} (test : ℕ → Bool) (n i : ℕ) → i < n → test i ≡ false → x ≡ first_place test (n - i) i → x ≡ first_place test (n - (i + 1)) (i + 1)
 place_next test n i h is at = next places (place_if test) n i h (place_no test i is) at
 
-pub place_hit : {x : Option ℕ} (test : ℕ → Bool) (n i : ℕ) → i < n → test i ≡ true → x ≡ first_place test (n - i) i → x ≡ some i
+pub place_hit : {x : Option ℕ} (test : ℕ → Bool) (n i : ℕ) → i < n → test i ≡ true → x ≡ first_place test (n - i) i → x ≡ Some i
 place_hit test n i h is at = hit places (place_if test) n i h (rw (place_yes test i is) (λ y. refl)) at ∙ place_yes test i is
 
 -- k is the first of n places from i on that passes the test
@@ -190,17 +187,17 @@ pub record First (test : ℕ → Bool) (n i k : ℕ) : Type 0 where
   pub passes : test k ≡ true
   pub before : (j : ℕ) → i ≤ j → j < k → test j ≡ false
 
-pub place_first : {k : ℕ} (test : ℕ → Bool) (n i : ℕ) → first_place test n i ≡ some k → First test n i k
+pub place_first : {k : ℕ} (test : ℕ → Bool) (n i : ℕ) → first_place test n i ≡ Some k → First test n i k
 unfolding place_if
 place_first {k} test n i is =
-    let at : Least none (place_if test) n i (some k) = least places (place_if test) n i is (λ is_none. let z : ◌≡◌ {A = ℕ} 0 1 = cc in omega arith) in
+    let at : Least None (place_if test) n i (Some k) = least places (place_if test) n i is (λ is_none. let z : ◌≡◌ {A = ℕ} 0 1 = cc in omega arith) in
     let here : (test at.place ≡ true) × (at.place ≡ k) = given_yes (test at.place) at.place k at.gives in
     record { from = omega arith; below = omega arith; passes = ap test (sym here.1) ∙ here.0; before = λ j l h. given_no (test j) j (at.before j l (omega arith)) }
 
-pub first-place : {k : ℕ} (test : ℕ → Bool) (n i : ℕ) → First test n i k → first_place test n i ≡ some k
+pub first-place : {k : ℕ} (test : ℕ → Bool) (n i : ℕ) → First test n i k → first_place test n i ≡ Some k
 first-place {k} test n i at =
     found places (place_if test) n i (record { place = k; from = at.from; below = at.below; gives = place_yes test k at.passes; before = λ j l h. place_no test j (at.before j l h) }) (λ y. refl)
 
-pub place_none : (test : ℕ → Bool) (n i : ℕ) → first_place test n i ≡ none → (j : ℕ) → i ≤ j → j < i + n → test j ≡ false
+pub place_none : (test : ℕ → Bool) (n i : ℕ) → first_place test n i ≡ None → (j : ℕ) → i ≤ j → j < i + n → test j ≡ false
 unfolding place_if
 place_none test n i is j l h = given_no (test j) j (empty places (place_if test) n i is j l h)

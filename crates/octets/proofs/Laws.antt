@@ -3,14 +3,14 @@ use mathlib.Core.Path.{◌≡◌, refl, sym, ◌∙◌, ap}
 use mathlib.Core.Bool.{true}
 use mathlib.Core.List.{List, [], ◌∷◌, ◌++◌, append_assoc, append-nil}
 use Prim.Native.Nat.{ℕ, zero, suc, ◌+◌, ◌*◌, ◌-◌, ◌/◌, ◌%◌, ◌^◌, ◌≤◌, ◌<◌}
-use native.Mathlib.Nat.{add_assoc, add-zero, pow-succ'}
+use native.Mathlib.Nat.{add_assoc, add-zero, zero-add, pow-succ', div-div-eq-div-mul}
+use Rattle.std.specs.Int.{w16, w32, w64, from_le_bytes, bytes_low_first}
 use native.Mathlib.Numerals.{add-one}
 use native.Mathlib.Omega.{arith}
-use borrow.Author.Tests.{lt-ltb, le-ltb, le-leb, lt-leb, eqb-true, eq-eqb}
-use lib.IntN.{pos, negsuc}
+use borrow.Author.Tests.{le-leb, lt-leb, eqb-true, eq-eqb}
 use lib.ListN.{length, get_or, take, drop, replicate, length-append, length-drop, length-replicate, get_or-replicate, take-append-drop, drop_of_length-le, get_or-eq_default}
 use lib.Seq.{get_or-append_seam, append_snoc, drop-cons, drop-drop, take_at, drop_at, length-take-le, get_or-take, get_or-drop, ext_get_or}
-use Rattle.octets.specs.Octets.{number_at, byte_at, word_at, long_at, quad_at, signed_of, is_zero_at, zero_between, bytes_of, written_at}
+use Rattle.octets.specs.Octets.{number_at, byte_at, word_at, is_zero_at, zero_between, bytes_of, written_at}
 use Rattle.octets.proofs.FirstToLast.{tests, empty, nowhere}
 
 -- a list of bytes
@@ -40,18 +40,6 @@ pub word-is : (s : List ℕ) (at : ℕ) → word_at s at ≡ byte_at s at + 256 
 unfolding word_at byte_at number_at
 word-is s at = omega arith
 
--- four bytes are two words
-pub long_is : (s : List ℕ) (at : ℕ) → long_at s at ≡ word_at s at + 65536 * word_at s (at + 2)
-unfolding word_at long_at number_at
-long_is s at = rw (add_assoc at 1 1) (omega arith)
-
--- eight bytes are two fours
-pub quad_is : (s : List ℕ) (at : ℕ) → quad_at s at ≡ long_at s at + 4294967296 * long_at s (at + 4)
-unfolding quad_at long_at number_at
-quad_is s at =
-    let four : at + 1 + 1 + 1 + 1 ≡ at + 4 = omega arith in
-    rw four (omega arith)
-
 -- the same bytes make the same number
 pub number_same : (n : ℕ) (s t : List ℕ) (a b : ℕ) → ((j : ℕ) → j < n → get_or s (a + j) 0 ≡ get_or t (b + j) 0) → number_at n s a ≡ number_at n t b
 unfolding number_at
@@ -63,6 +51,23 @@ number_same (suc n) s t a b each =
   where
     over : (x j : ℕ) → x + 1 + j ≡ x + (1 + j)
     over x j = add_assoc x 1 j
+
+-- the same, where they are the first of a list
+pub number_moved : (n : ℕ) (bytes s : List ℕ) (at : ℕ) → ((j : ℕ) → j < n → get_or bytes j 0 ≡ get_or s (at + j) 0) → number_at n bytes 0 ≡ number_at n s at
+number_moved n bytes s at each = number_same n bytes s 0 at (λ j h. ap (λ (k : ℕ). get_or bytes k 0) (zero-add j) ∙ each j h)
+
+-- the number that two, four or eight bytes spell
+pub spelled_2 : (bytes : List ℕ) → from_le_bytes w16 bytes ≡ number_at 2 bytes 0
+unfolding number_at
+spelled_2 bytes = omega arith
+
+pub spelled_4 : (bytes : List ℕ) → from_le_bytes w32 bytes ≡ number_at 4 bytes 0
+unfolding number_at
+spelled_4 bytes = omega arith
+
+pub spelled_8 : (bytes : List ℕ) → from_le_bytes w64 bytes ≡ number_at 8 bytes 0
+unfolding number_at
+spelled_8 bytes = omega arith
 
 -- reading what was written returns it
 pub read_written : (a t : List ℕ) (n x : ℕ) → x < 256 ^ n → number_at n (a ++ bytes_of n x ++ t) (length a) ≡ x
@@ -102,21 +107,24 @@ bytes_read (suc n) s at small h =
     let here : drop at s ≡ b ∷ drop (suc at) s = drop-cons s at 0 (omega arith) in
     rw (first, rest, here, later, add-one)
 
+-- a number's bytes from byte i on, the lowest first
+lowest-from : (i n x : ℕ) → bytes_low_first i n x ≡ bytes_of n (x / 256 ^ i)
+unfolding bytes_of
+lowest-from i zero x = refl
+lowest-from zero (suc n) x =
+    let whole : x ≡ x / 1 = omega arith in
+    λ t. whole t % 256 ∷ (lowest-from 1 n x ∙ ap (λ (y : ℕ). bytes_of n (y / 256)) whole) t
+lowest-from (suc i) (suc n) x =
+    let next : 256 ^ suc (suc i) ≡ 256 ^ suc i * 256 = omega (arith, pow-succ' 256 (suc i)) in
+    ap (λ (l : List ℕ). x / 256 ^ suc i % 256 ∷ l) (lowest-from (suc (suc i)) n x ∙ ap (λ (d : ℕ). bytes_of n (x / d)) next ∙ ap (bytes_of n) (sym (div-div-eq-div-mul x (256 ^ suc i) 256)))
+
+pub lowest_first : (n x : ℕ) → bytes_low_first 0 n x ≡ bytes_of n x
+lowest_first n x = let whole : x / 1 ≡ x = omega arith in lowest-from 0 n x ∙ ap (bytes_of n) whole
+
 pub length_bytes : (n x : ℕ) → length (bytes_of n x) ≡ n
 unfolding bytes_of
 length_bytes zero x = refl
 length_bytes (suc n) x = ap suc (length_bytes n (x / 256))
-
--- a signed word by its sign
-pub signed_low : (x : ℕ) → x < 32768 → signed_of x ≡ pos x
-unfolding signed_of
-signed_low x h = rw (lt-ltb x 32768 h)
-
-pub signed_high : (x : ℕ) → 32768 ≤ x → x < 65536 → signed_of x ≡ negsuc (65535 - x)
-unfolding signed_of
-signed_high x h l =
-    let more : 65536 - x ≡ suc (65535 - x) = omega arith in
-    rw (le-ltb x 32768 h, more)
 
 -- 'bytes from a to b are zero', byte by byte
 pub zero_each : (s : List ℕ) (a b : ℕ) → zero_between s a b ≡ true → (k : ℕ) → a ≤ k → k < b → get_or s k 0 ≡ 0

@@ -1,6 +1,5 @@
 -- 'First to last' (01, 'Numbers given back'): stated once, for faults, for tests and for places.
-use Rattle.std.specs.Prelude.{Bool, true, ◌&&◌, cond, ℕ, zero, suc, ◌+◌}
-use Rattle.std.proofs.Math.Option.{Option, none, some}
+use Rattle.std.specs.Prelude.{Bool, true, ◌&&◌, cond, ℕ, zero, suc, ◌+◌, Option, None, Some}
 use Rattle.refusals.specs.Told.{Fault, fine, or_else}
 
 -- n places from i on, first to last: what f gives at i, or else what it gives at i + 1, ..; `nothing` after the last
@@ -17,13 +16,13 @@ abbrev pub holds_all : (ℕ → Bool) → ℕ → ℕ → Bool
 holds_all test n i = first_to_last ◌&&◌ true test n i
 
 abbrev pub or_next : Option ℕ → Option ℕ → Option ℕ
-or_next none next = next
-or_next (some k) next = some k
+or_next None next = next
+or_next (Some k) next = Some k
 
 -- the place itself, if it passes the test
 unfoldable pub place_if : (ℕ → Bool) → ℕ → Option ℕ
-place_if test k = cond (test k) (some k) none
+place_if test k = cond (test k) (Some k) None
 
 -- the first of n places from i on that passes the test
 abbrev pub first_place : (ℕ → Bool) → ℕ → ℕ → Option ℕ
-first_place test n i = first_to_last or_next none (place_if test) n i
+first_place test n i = first_to_last or_next None (place_if test) n i

@@ -3,10 +3,10 @@
 -- A refusal writes nothing into a lent buffer and hands the book of waiting requests back unchanged.'
 -- Of the meanings that the contracts cite: `Ends numbers first last t` says that t is a result, or a refusal whose number is on the
 -- entry's own list `numbers` and whose record is 0, or for a starred number one of the records from `first` to `last`.
+use Rattle.std.specs.Prelude.{Option, None, Some}
 use mathlib.Core.Path.{◌≡◌, refl, sym, ap, subst}
 use mathlib.Core.Bool.{Bool, true, not, ◌&&◌}
 use mathlib.Core.List.{List, [], ◌∷◌}
-use mathlib.Core.Option.{Option, none, some}
 use Prim.Native.Nat.{ℕ, ◌+◌, ◌<◌}
 use native.Mathlib.Omega.{arith}
 use lib.Dec.{leb, ltb, eqb}
@@ -55,7 +55,7 @@ use Rattle.live.specs.Channels.{celsius_of, temperature_channel_of, pressure_cha
 use Rattle.live.specs.Panel.{panel_temperature_of, panel_pressure_of}
 use Rattle.live.specs.declared.channels.Channel.{Channel}
 use Rattle.live.specs.declared.channels.Channel.TheVariants.{Fahrenheit, Celsius, Pressure, Fault}
-use Rattle.live.proofs.Answers.{single_fault, live_judged}
+use Rattle.promises.proofs.SinglesJudged.{single_fault, live_judged}
 use Rattle.lookup.specs.HalfDegree.{half_degree, half_degree_signed}
 use Rattle.lookup.specs.Table.{record_ok as entry_is_ok, order_ok}
 use Rattle.lookup.specs.Pair.{asked_ok, has_pair}
@@ -278,8 +278,8 @@ back_ends s size =
 
 place_ends : (s : List ℕ) (o : Option ℕ) → Ends look_up_numbers 1 (records_in 8 s) (record_found s o)
 unfolding is_one_of marked_of record_ok refusal_ok
-place_ends s none = record { gives = refl }
-place_ends s (some i) = record { gives = tt }
+place_ends s None = record { gives = refl }
+place_ends s (Some i) = record { gives = tt }
 
 pub look_up_ends : (t : ℤ) (g : ℕ) (s : List ℕ) → Ends look_up_numbers 1 (records_in 8 s) (look_up_of t g s)
 unfolding look_up_of found_in table_fault entry_fault_of_table is_one_of marked_of record_ok refusal_ok
@@ -313,8 +313,8 @@ withdrawal_ends book shipper number =
 
 handed_ends : (book : Book) (next : Option ℕ) → Ends take_numbers 0 0 (handed_out book next)
 unfolding handed_out is_one_of marked_of record_ok refusal_ok
-handed_ends book none = record { gives = refl }
-handed_ends book (some turn) = record { gives = tt }
+handed_ends book None = record { gives = refl }
+handed_ends book (Some turn) = record { gives = tt }
 
 pub take_ends : (book : Book) → Ends take_numbers 0 0 (take_of book)
 unfolding take_of is_one_of marked_of record_ok refusal_ok

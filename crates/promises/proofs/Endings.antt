@@ -1,13 +1,15 @@
 -- Judging in order ends with a number of the list, if each of its tests does.
+use Rattle.std.specs.Prelude.{Option, None, Some}
 use mathlib.Core.Path.{◌≡◌, sym, subst}
 use mathlib.Core.Bool.{Bool, true, false}
 use mathlib.Core.List.{List}
-use mathlib.Core.Option.{Option, none, some}
 use Prim.Native.Nat.{ℕ, zero, suc, ◌+◌, ◌≤◌, ◌<◌}
 use native.Mathlib.Omega.{arith}
-use Rattle.refusals.specs.Told.{Told, Fault, fine, fault, demand, demand_at, or_else, unless, judged}
+use Rattle.refusals.specs.Told.{Told, done, refused, Fault, fine, fault, demand, demand_at, or_else, unless, judged}
 use Rattle.octets.specs.FirstToLast.{first_to_last, scan}
 use Rattle.group.specs.Repeatability.{nine_unless}
+use Rattle.draw.specs.Volumes.{counted}
+use Rattle.draw.specs.declared.DrawVolumes.{DrawVolumes}
 use Rattle.promises.specs.Ending.{refusal_ok, Ends}
 
 -- the same of what judging finds
@@ -49,9 +51,14 @@ module _ {numbers : List ℕ} {first last : ℕ} where
   by_judged x ok = by_unless ok (record { gives = tt })
 
   pub by_nine : {A : Type 0} (o : Option ℕ) (follows : ℕ → A) → refusal_ok numbers first last 9 0 ≡ true → Ends numbers first last (nine_unless o follows)
-  by_nine none follows ok = record { gives = ok }
-  by_nine (some at) follows ok = record { gives = tt }
+  by_nine None follows ok = record { gives = ok }
+  by_nine (Some at) follows ok = record { gives = tt }
 
 -- what is told ends as its meaning does
 pub as_told : {A : Type 0} {numbers : List ℕ} {first last : ℕ} {t m : Told A} → t ≡ m → Ends numbers first last m → Ends numbers first last t
 as_told {A} {numbers} {first} {last} is ends = subst (λ (u : Told A). Ends numbers first last u) (sym is) ends
+
+-- and an answer of volumes as their count does
+pub of_counted : {numbers : List ℕ} {first last : ℕ} (t : Told DrawVolumes) → Ends numbers first last (counted t) → Ends numbers first last t
+of_counted (done found) ends = record { gives = tt }
+of_counted (refused number at) ends = record { gives = ends.gives }

@@ -1,10 +1,11 @@
 -- Demand 1 of the entries' contracts: each answer tells its meaning, which ends as the demand says.
 use mathlib.Core.Path.{sym, ◌∙◌}
 use lib.ListN.{length}
+use Rattle.refusals.specs.Answered.{told}
 use Rattle.factors.specs.Places.{digits}
 use Rattle.promises.specs.Arguments.{first, second, third, fourth, fifth, sixth, seventh}
 use Rattle.promises.specs.Entries.{Entries}
-use Rattle.promises.proofs.Endings.{as_told}
+use Rattle.promises.proofs.Endings.{as_told, of_counted}
 use Rattle.promises.proofs.Demand1.{cts_ends, cps_ends, cpl_ends, worked_ends, shown_ends, job_ends, forward_ends, back_ends, none_when_refused, write_ends, read_ends, fill_ends, volumes_end, draw_ends}
 use Rattle.promises.proofs.Demand1.{ticket_ends, live_ends, channels_end, panel_temperature_ends, panel_pressure_ends, look_up_ends, request_ends, withdrawal_ends, take_ends, setting_ends, commons_end, left_as_found, request_leaves_book, withdrawal_leaves_book, take_leaves_book, setting_leaves_book}
 
@@ -27,7 +28,7 @@ entries =
       write_leaves = λ κ a r x p is. p.1 ∙ left_as_found _ (fifth a).now (sym p.0 ∙ is);
       read_entry = λ κ a r x p. as_told p (read_ends (first a).now);
       fill_entry = λ κ a r x p. as_told p (fill_ends (first a) (second a).now);
-      volumes_entry = λ κ a r x p. as_told p.0 (volumes_end (first a) (second a) (third a).now);
+      volumes_entry = λ κ a r x p. of_counted (told r) (as_told p.0 (volumes_end (first a) (second a) (third a).now));
       draw_entry = λ κ a r x p. as_told p (draw_ends (first a) (second a) (third a).now);
       ticket_entry = λ κ a r x p. as_told p (ticket_ends (first a));
       convert_entry = λ κ a r x p. as_told p (live_ends (first a).temperature (first a).pressure);

@@ -6,12 +6,15 @@ use Prim.Native.Nat.{ℕ}
 use native.Mathlib.Omega.{arith}
 use lib.ListN.{length}
 use Rattle.refusals.specs.Told.{Told, refused}
+use Rattle.refusals.specs.Answered.{told}
 use Rattle.factors.specs.declared.Prover.{Prover}
 use Rattle.run.specs.declared.Form.{Form}
 use Rattle.run.proofs.Places.{size_positive}
 use Rattle.proving.specs.Job.{found_of, job_of, accepted_of}
 use Rattle.proving.proofs.Accepted.{whole_when_done}
 use Rattle.draw.specs.Answers.{count_of, draw_of}
+use Rattle.draw.specs.Volumes.{counted}
+use Rattle.draw.proofs.Outcome.{refused_counted}
 use Rattle.promises.specs.Arguments.{first, second, third, fourth, fifth, sixth, seventh}
 use Rattle.promises.specs.Causes.{ProvingCause}
 use Rattle.promises.specs.ExactCauses.{ExactCauses}
@@ -46,6 +49,8 @@ exact_causes =
       one_of_draw = λ profile prover s. one_cause (draw_of profile prover s) (draw_tells profile prover s);
       prove-exactly = λ κ a r x number at p. told_exactly number at (job_tells (second a) (third a) (fifth a) (sixth a).now (fourth a) (first a) (length (seventh a).now)) p.0;
       accept_exactly = λ κ a r x p. let none = none_handed (first a) (second a) (third a) (fourth a) (fifth a).now in ((λ is. none.0 (sym p ∙ is)), (λ why. p ∙ none.1 why));
-      volumes_exactly = λ κ a r x number at p. told_exactly number at (volumes_tell (first a) (second a) (third a).now) p.0;
+      volumes_exactly = λ κ a r x number at p.
+          let exactly = told_exactly number at (volumes_tell (first a) (second a) (third a).now) p.0 in
+          ((λ is. exactly.0 (ap counted is)), (λ why. refused_counted (told r) (exactly.1 why)));
       draw_exactly = λ κ a r x number at p. told_exactly number at (draw_tells (first a) (second a) (third a).now) p;
     }

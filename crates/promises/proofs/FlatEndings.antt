@@ -1,4 +1,5 @@
 -- A struct of the C face, read, is what was flattened into it: so it ends as that does, and a caller may go by its number.
+use Rattle.std.specs.Prelude.{Result, Ok, Err}
 use mathlib.Core.Path.{◌≡◌, refl, sym, ap, ◌∙◌, subst}
 use mathlib.Core.Bool.{Bool, true, false, ◌&&◌}
 use mathlib.Core.List.{List}
@@ -6,8 +7,6 @@ use Prim.Native.Nat.{ℕ, zero, suc}
 use native.Mathlib.Omega.{arith}
 use Rattle.refusals.specs.Told.{Told, done, refused}
 use Rattle.octets.specs.Lists.{is_one_of}
-use Rattle.exact.specs.declared.Quotient.{Quotient}
-use Rattle.exact.specs.declared.Quotient.TheVariants.{Value, ZeroDivisor, TooLarge}
 use Rattle.api.specs.Flat.{number_in, record_in, values_in, no_report, no_figures, no_fill, no_base, no_volumes, no_reading, nothing_shown, no_entry, no_handout, no_commons}
 use Rattle.api.specs.Flat.{flat_factor, flat_report, flat_run, flat_fill, flat_passes, flat_draw, flat_volumes, flat_live, flat_panel, flat_entry, flat_moved, flat_done, flat_taken, flat_commons, flat_quotient}
 use Rattle.api.specs.declared.water.EndakuroPasses.{EndakuroPasses}
@@ -15,6 +14,8 @@ use Rattle.promises.proofs.Groups.{apart}
 use Rattle.promises.specs.Ending.{record_ok, refusal_ok, Ends}
 use Rattle.promises.specs.FlatEnding.{Flat, by_number, FlatEnds, LeavesAsFound, by_kind}
 use Rattle.promises.specs.FlatEnding.{factor_in, report_in, run_in, fill_in, passes_in, base_in, volumes_in, reading_in, shown_in, entry_in, moved_in, change_in, handout_in, commons_in}
+use Rattle.exact.specs.declared.QuotientError.TheVariants.{ZeroDivisor, TooLarge}
+use Rattle.exact.specs.declared.QuotientError.{QuotientError}
 
 -- what a struct holds of what was told
 abbrev pub held : {A : Type 0} → A → Told A → Flat A
@@ -119,12 +120,12 @@ pub commons_back : ReadBack no_commons flat_commons commons_in
 unfolding flat_commons
 commons_back = record { same = λ t. refl }
 
-pub quotient_back : (q : Quotient) → by_kind (flat_quotient q).kind (flat_quotient q).value ≡ q
-quotient_back (Value q) = refl
-quotient_back ZeroDivisor = refl
-quotient_back TooLarge = refl
+pub quotient_back : (q : Result ℕ QuotientError) → by_kind (flat_quotient q).kind (flat_quotient q).value ≡ q
+quotient_back (Ok q) = refl
+quotient_back (Err ZeroDivisor) = refl
+quotient_back (Err TooLarge) = refl
 
-pub no_quotient : (q : Quotient) → ((flat_quotient q).kind ≡ 0 → ⊥) → (flat_quotient q).value ≡ 0
-no_quotient (Value q) some = absurd (some refl)
-no_quotient ZeroDivisor some = refl
-no_quotient TooLarge some = refl
+pub no_quotient : (q : Result ℕ QuotientError) → ((flat_quotient q).kind ≡ 0 → ⊥) → (flat_quotient q).value ≡ 0
+no_quotient (Ok q) some = absurd (some refl)
+no_quotient (Err ZeroDivisor) some = refl
+no_quotient (Err TooLarge) some = refl

@@ -1,8 +1,8 @@
 -- Demand 2's formulas: each figure is its exact fraction rounded once, since no divisor is zero within the ranges.
+use Rattle.std.specs.Prelude.{Ok, Err, Option, None, Some}
 use mathlib.Core.Path.{◌≡◌, refl, sym, ap, ◌∙◌, subst}
 use mathlib.Core.Bool.{Bool, true, false, cond}
 use mathlib.Core.List.{List}
-use mathlib.Core.Option.{Option, none, some}
 use Prim.Native.Nat.{ℕ, zero, suc, ◌+◌, ◌-◌, ◌*◌, ◌^◌, ◌<◌, ◌≤◌}
 use native.Mathlib.Nat.{div-zero, one-le-pow, mul-pos}
 use native.Mathlib.Omega.{arith}
@@ -69,13 +69,13 @@ use Rattle.group.specs.Listed.{listed}
 use Rattle.group.proofs.Listed.{listed_length}
 use Rattle.draw.specs.declared.BaseVolume.{BaseVolume}
 use Rattle.factors.specs.Answers.{combined_of, held}
-use Rattle.factors.specs.declared.Combined.TheVariants.{Value as Held, TooMany, TooLarge}
 use Rattle.promises.specs.Proving.{Acceptable, Used}
 use Rattle.promises.specs.WaterDraw as water
 use Rattle.promises.specs.WaterDraw.{FillsInOrder}
 use Rattle.promises.specs.Formulas.{RoundedOnce, RoundedTo, RunRounded, FillRounded, PassRounded, PassesCounted, RoundTripsCounted, TicketRounded}
 use Rattle.promises.proofs.Judging.{fills_judged}
 use Rattle.promises.proofs.Signed.{adjusted_above}
+use Rattle.factors.specs.declared.CombineError.TheVariants.{TooMany, TooLarge}
 
 once : (n d : ℕ) → 0 < d → RoundedOnce n d (rounded_div n d)
 once n d h = record { near = nearest n h; only = λ p close. nearest_one close (nearest n h) }
@@ -125,16 +125,16 @@ cpl_rounded d liquid is =
     moved (judged_done f (cpl_at d liquid) is) (cpl_once d liquid (demand_was (liquid_ok liquid) 5 (judged_was f (cpl_at d liquid) is)))
 
 -- 'A combined factor is the exact product of the rounded factors, then one rounding.'
-held_is : (fits : Bool) (n : ℕ) {q : ℕ} → cond fits (Held n) TooLarge ≡ Held q → n ≡ q
+held_is : (fits : Bool) (n : ℕ) {q : ℕ} → cond fits (Ok n) (Err TooLarge) ≡ Ok q → n ≡ q
 held_is true n is = cc
 held_is false n is = cc
 
-taken_is : (few : Bool) (n : ℕ) {q : ℕ} → cond few (held n) TooMany ≡ Held q → n ≡ q
+taken_is : (few : Bool) (n : ℕ) {q : ℕ} → cond few (held n) (Err TooMany) ≡ Ok q → n ≡ q
 unfolding held
 taken_is true n is = held_is (ltb n (2 ^ 64)) n is
 taken_is false n is = cc
 
-pub combined_rounded : (d : ℕ) (fs : List ℕ) {q : ℕ} → combined_of d fs ≡ Held q → RoundedTo d (combined d fs) q
+pub combined_rounded : (d : ℕ) (fs : List ℕ) {q : ℕ} → combined_of d fs ≡ Ok q → RoundedTo d (combined d fs) q
 unfolding combined_of combined
 combined_rounded d fs is = moved (taken_is (leb (length fs) 4) (combined_at d fs) is) (combined_once d fs)
 
@@ -237,8 +237,8 @@ unfolding pass_pressure pressure_ok
 pass_pressure_ok prover s fills pass = by_place (first_place (is_of s pass) (records_in 32 s) 0) refl
   where
     by_place : (o : Option ℕ) → first_place (is_of s pass) (records_in 32 s) 0 ≡ o → pressure_ok (pressure_at s o) ≡ true
-    by_place none is = refl
-    by_place (some i) is =
+    by_place None is = refl
+    by_place (Some i) is =
         let first : First (is_of s pass) (records_in 32 s) 0 i = place_first (is_of s pass) (records_in 32 s) 0 is in
         (fields (fill_at s i) (fills.records i (omega (arith, first.below))).fields).pressure
 

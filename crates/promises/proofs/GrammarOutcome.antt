@@ -1,6 +1,4 @@
 -- One outcome (OneOutcome.antt) for the functions of the line program's grammar: the answer, and the bytes left in what was lent to be written.
-use Rattle.numerals.proofs.Numbers.{told_one as number-one}
-use Rattle.numerals.proofs.Signs.{signed_one}
 use Rattle.promises.specs.GrammarOutcome.{GrammarOutcome}
 use Rattle.promises.proofs.OneOutcome.{same}
 
@@ -11,8 +9,8 @@ grammar_outcome =
       words_count_words_one = (λ _ _. tt, λ _ _ _ _ _ _. same);
       words_write_text_one = (λ _ _. tt, λ _ _ _ _ _ _ p p'. same p.0 p'.0);
       words_write_text_left = λ _ _ _ _ _ _ p p'. same p.1 p'.1;
-      numerals_read_number_one = (λ _ _. tt, λ _ _ r q _ _ p p'. number-one r q (same p p'));
-      numerals_read_signed_one = (λ _ _. tt, λ _ _ r q _ _ p p'. signed_one r q (same p p'));
+      numerals_read_number_one = (λ _ _. tt, λ _ _ _ _ _ _. same);
+      numerals_read_signed_one = (λ _ _. tt, λ _ _ _ _ _ _. same);
       numerals_write_number_one = (λ _ _. tt, λ _ _ _ _ _ _ p p'. same p.0 p'.0);
       numerals_write_number_left = λ _ _ _ _ _ _ p p'. same p.1 p'.1;
       numerals_write_signed_one = (λ _ _. tt, λ _ _ _ _ _ _ p p'. same p.0 p'.0);

@@ -1,8 +1,8 @@
 -- A group of a list whose values are given by their places, and the first group as the least place whose values qualify.
+use Rattle.std.specs.Prelude.{None}
 use mathlib.Core.Path.{◌≡◌, sym, ap, ◌∙◌}
 use mathlib.Core.Bool.{true, false}
 use mathlib.Core.List.{List}
-use mathlib.Core.Option.{none}
 use Prim.Native.Nat.{ℕ, ◌+◌, ◌≤◌, ◌<◌}
 use native.Mathlib.Omega.{arith}
 use lib.ListN.{length, get_or}
@@ -36,6 +36,6 @@ module _ (f : ℕ → ℕ) (xs : List ℕ) (values : (i : ℕ) → i < length xs
       }
 
   -- where some place has room and its values qualify, one is found
-  pub some_found : (limit at : ℕ) → at + n ≤ length xs → qualifies limit (listed f n at) ≡ true → first_group limit n xs ≡ none → ⊥
+  pub some_found : (limit at : ℕ) → at + n ≤ length xs → qualifies limit (listed f n at) ≡ true → first_group limit n xs ≡ None → ⊥
   some_found limit at room meet is =
       apart (sym meet ∙ ap (qualifies limit) (sym (group_listed at room)) ∙ none_found limit n xs is at room)

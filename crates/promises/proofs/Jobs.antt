@@ -1,4 +1,5 @@
 -- Demand 2 of the contracts of the job and of the water draw: each answer tells its meaning, of which the demand is proved.
+use Rattle.std.specs.Prelude.{Ok}
 use mathlib.Core.Path.{◌≡◌, refl, sym, ap, ◌∙◌}
 use mathlib.Core.List.{List, []}
 use Prim.Native.Nat.{ℕ}
@@ -6,22 +7,20 @@ use lib.ListN.{length}
 use Rattle.refusals.specs.Told.{Told, Fault, unless, judged, left_by}
 use Rattle.octets.specs.Records.{zeros_after}
 use Rattle.factors.specs.declared.Prover.{Prover}
-use Rattle.report.specs.Judged.{told}
 use Rattle.report.specs.Record.{bytes_of_report}
 use Rattle.report.specs.declared.Report.{Report}
-use Rattle.report.specs.declared.Answer.TheVariants.{Fields}
-use Rattle.report.proofs.Laws.{told_one}
 use Rattle.draw.specs.Passes.{pass_volume}
 use Rattle.draw.specs.Profile.{trip_volume, volume_count, volume_of, volumes_of}
 use Rattle.draw.specs.Base.{base_of}
-use Rattle.draw.specs.Answers.{told_draw, fills_fault, draw_fault, count_of, held_for, draw_of}
+use Rattle.draw.specs.Answers.{fills_fault, draw_fault, count_of, held_for, draw_of}
 use Rattle.draw.specs.declared.Profile.{Profile}
+use Rattle.draw.proofs.Outcome.{volumes_one}
 use Rattle.draw.specs.declared.Profile.TheVariants.{Unidirectional, Bidirectional}
-use Rattle.draw.specs.declared.WaterDraw.TheVariants.{Drawn}
-use Rattle.draw.proofs.Outcome.{count_one, draw_one}
 use Rattle.promises.specs.Arguments.{first, second, third, fourth, fifth, sixth, seventh}
 use Rattle.promises.specs.Jobs.{Jobs}
 use Rattle.promises.proofs.Demand2.{accepted_only_when, accepted_when, first_is_used, draw_accepted_only_when, draw_accepted_when, draw_first_is_used}
+use Rattle.refusals.specs.Answered.{told}
+use Rattle.refusals.proofs.Laws.{told_one}
 
 -- what takes no more of a prover than its metal and its pipe
 bare : Prover → Prover
@@ -63,16 +62,15 @@ jobs =
           (first_is_used (second a) (third a) (fourth a) (fifth a) (sixth a).now (first a) (length (seventh a).now) job, p.1 ∙ ap (λ (t : Told Report). left_by t bytes_of_report (seventh a).now) job);
       proved_when = λ κ a r x p asked ok.
           let job = accepted_when (second a) (third a) (fourth a) (fifth a) (sixth a).now (first a) (length (seventh a).now) asked ok in
-          (job.0, told_one r (Fields job.0) (p.0 ∙ job.1));
-      drawn_only_when = λ κ a r x base p is. draw_accepted_only_when (first a) (second a) (third a).now (sym p ∙ ap told_draw is);
-      drawn_of_the_first = λ κ a r x base p is. draw_first_is_used (first a) (second a) (third a).now (sym p ∙ ap told_draw is);
+          (job.0, told_one r (Ok job.0) (p.0 ∙ job.1));
+      drawn_only_when = λ κ a r x base p is. draw_accepted_only_when (first a) (second a) (third a).now (sym p ∙ ap told is);
+      drawn_of_the_first = λ κ a r x base p is. draw_first_is_used (first a) (second a) (third a).now (sym p ∙ ap told is);
       drawn_when = λ κ a r x p ok.
           let drawn = draw_accepted_when (first a) (second a) (third a).now ok in
-          (drawn.0, draw_one r (Drawn drawn.0) (p ∙ drawn.1));
-      volumes_without_base = λ κ a r x κ' b q y p p' profile metal pipe records i.
-          record {
-            answer = count_one r.answer q.answer (p.0 ∙ without_base count_of count_takes (second a) (second b) profile metal pipe records ∙ sym p'.0) i;
-            volumes = (p.1 ∙ without_base held_for held_takes (second a) (second b) profile metal pipe records ∙ sym p'.1) i;
-          };
-      drawn_without_base = λ κ a r x κ' b q y p p' profile metal pipe records. draw_one r q (p ∙ without_base draw_of draw_takes (second a) (second b) profile metal pipe records ∙ sym p');
+          (drawn.0, told_one r (Ok drawn.0) (p ∙ drawn.1));
+      volumes_without_base = λ κ a r x κ' b q y p p' profile metal pipe records.
+          volumes_one r q
+          (p.0 ∙ without_base count_of count_takes (second a) (second b) profile metal pipe records ∙ sym p'.0)
+          (p.1 ∙ without_base held_for held_takes (second a) (second b) profile metal pipe records ∙ sym p'.1);
+      drawn_without_base = λ κ a r x κ' b q y p p' profile metal pipe records. told_one r q (p ∙ without_base draw_of draw_takes (second a) (second b) profile metal pipe records ∙ sym p');
     }

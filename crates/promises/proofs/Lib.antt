@@ -2,6 +2,7 @@ pub mod Figures
 pub mod OutAndBack
 pub mod OneWay
 pub mod Endings
+pub mod SinglesJudged
 pub mod Demand1
 pub mod Groups
 pub mod Meeting

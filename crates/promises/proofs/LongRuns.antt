@@ -10,7 +10,7 @@ use lib.Dec.{eqb}
 use lib.ListN.{length}
 use lib.Seq.{ext_get_or}
 use Rattle.refusals.specs.Told.{Told, done, demand, demand_at, or_else, unless, left_by}
-use Rattle.refusals.proofs.Laws.{judged_was, judged_done}
+use Rattle.refusals.proofs.Laws.{judged_was, judged_done, told_one}
 use Rattle.octets.specs.FirstToLast.{scan}
 use Rattle.octets.specs.Records.{records_in, are_records}
 use Rattle.octets.proofs.FirstToLast.{faults, same as scan-same}
@@ -24,7 +24,6 @@ use Rattle.group.specs.Repeatability.{first_group, nine_unless}
 use Rattle.group.proofs.Listed.{listed_value, listed_length}
 use Rattle.report.specs.Judged.{report_of}
 use Rattle.report.specs.Record.{bytes_of_report}
-use Rattle.report.proofs.Laws.{told_one as report-one}
 use Rattle.run.specs.Record.{size_of, fields_from, run_from, run_at, run_ok, unnamed_ok}
 use Rattle.run.specs.Figures.{indicated, figures_of}
 use Rattle.run.specs.Answers.{record_fault, figures_fault}
@@ -209,5 +208,5 @@ long_runs =
           let there : job_of (first b) (second b) (third b) (fourth b) Short s (length (seventh b).now) ≡ job_of (first b) (second b) (third b) (fourth b) (fifth b) (sixth b).now (length (seventh b).now) =
           λ i. job_of (first b) (second b) (third b) (fourth b) (sym short i) (sym records i) (length (seventh b).now) in
           let job = here ∙ own ∙ there in
-          (report-one o q (p''.0 ∙ job ∙ sym p'.0), p''.1 ∙ (λ i. left_by (job i) bytes_of_report (buffer i)) ∙ sym p'.1);
+          (told_one o q (p''.0 ∙ job ∙ sym p'.0), p''.1 ∙ (λ i. left_by (job i) bytes_of_report (buffer i)) ∙ sym p'.1);
     }

@@ -1,10 +1,10 @@
 -- A look-up, exactly: the nearest half degree, the record with the pair, and each refusal for its cause.
+use Rattle.std.specs.Prelude.{Option, None, Some}
 use mathlib.Core.Path.{◌≡◌, refl, sym, ap, ◌∙◌}
 use mathlib.Core.Logic.Iff
 use mathlib.Core.Logic.{by_cases}
 use mathlib.Core.Bool.{Bool, true, false, ◌&&◌, ◌||◌, cond}
 use mathlib.Core.List.{List}
-use mathlib.Core.Option.{Option, none, some}
 use Prim.Native.Nat.{ℕ, zero, suc, ◌+◌, ◌-◌, ◌/◌, ◌%◌, ◌≤◌}
 use native.Mathlib.Decide.{dec_lt}
 use native.Mathlib.Omega.{arith}
@@ -13,7 +13,7 @@ use lib.Dec.{ltb, eqb}
 use lib.IntN.{ℤ, pos, negsuc, neg_ℤ, nat_abs, ◌-ℤ◌, neg_ℤ-neg_ℤ, neg_ℤ-+ℤ}
 use lib.Signed.{le_z, lt_z}
 use Rattle.refusals.specs.Told.{done, demand, demand_at, or_else, unless}
-use Rattle.refusals.proofs.Laws.{done_one, refused_not_done, unless_done}
+use Rattle.refusals.proofs.Laws.{done_one, refused_not_done, unless_done, told_one}
 use Rattle.ranges.specs.Table.{temperature_ok, gravity_ok, entries_ok}
 use Rattle.ranges.proofs.Laws.{both_first, both_second, both_true}
 use Rattle.octets.specs.FirstToLast.{scan, first_place, place_if}
@@ -27,7 +27,7 @@ use Rattle.lookup.specs.declared.Entry.{Entry}
 use Rattle.lookup.proofs.HalfDegree.{half_by_two, gravity_stays, temperature_stays}
 use Rattle.lookup.proofs.Pair.{HasPair, pair_true, pair_was}
 use Rattle.lookup.proofs.Sound.{NoFault}
-use Rattle.lookup.proofs.Outcome.{told_one, one_place}
+use Rattle.lookup.proofs.Outcome.{one_place}
 use Rattle.promises.specs.Arguments.{first, second, third}
 use Rattle.promises.specs.Records.{Lent}
 use Rattle.promises.specs.PrintedTable.{apart, NearestHalf, RecordInOrder, TableInOrder, Holds, Sought, Answerable, Answers, LookUpCause, OtherwiseSame}
@@ -125,7 +125,7 @@ module _ (t : ℤ) (g : ℕ) (s : List ℕ) where
       (in-turn (lent_judged entries_ok 8 s) (first-to-last (entry_fault s) n entry_judged))
 
   -- a place that is found holds the pair, and where none is, no record does
-  held : (i : ℕ) → first_place (has_pair s (half_degree_signed t) (half_degree g)) n 0 ≡ some i → Sought t g s i
+  held : (i : ℕ) → first_place (has_pair s (half_degree_signed t) (half_degree g)) n 0 ≡ Some i → Sought t g s i
   held i is =
       let at : First (has_pair s (half_degree_signed t) (half_degree g)) n 0 i = place_first (has_pair s (half_degree_signed t) (half_degree g)) n 0 is in
       let has = pair_was s (half_degree_signed t) (half_degree g) i at.passes in
@@ -134,7 +134,7 @@ module _ (t : ℤ) (g : ℕ) (s : List ℕ) where
   as_pair : (i : ℕ) → Sought t g s i → HasPair s (half_degree_signed t) (half_degree g) i
   as_pair i sought = record { temperature = sought.temperature; gravity = sought.gravity }
 
-  not_held : first_place (has_pair s (half_degree_signed t) (half_degree g)) n 0 ≡ none → (i : ℕ) × Sought t g s i → ⊥
+  not_held : first_place (has_pair s (half_degree_signed t) (half_degree g)) n 0 ≡ None → (i : ℕ) × Sought t g s i → ⊥
   not_held is pair =
       let i = pair.0 in
       let none_there = place_none (has_pair s (half_degree_signed t) (half_degree g)) n 0 is i (omega arith) (omega (arith, pair.1.inside)) in
@@ -181,8 +181,8 @@ module _ (t : ℤ) (g : ℕ) (s : List ℕ) where
       by_place (first_place (has_pair s (half_degree_signed t) (half_degree g)) n 0) refl ok parts.1
     where
       by_place : (o : Option ℕ) → first_place (has_pair s (half_degree_signed t) (half_degree g)) n 0 ≡ o → Answerable t g s → record_found s o ≡ done entry → Answers t g s entry
-      by_place none is ok told = absurd (refused_not_done told)
-      by_place (some i) is ok told = record { answerable = record { table = ok.table; asked = ok.asked; place = i; sought = held i is }; is = sym (done_one told) }
+      by_place None is ok told = absurd (refused_not_done told)
+      by_place (Some i) is ok told = record { answerable = record { table = ok.table; asked = ok.asked; place = i; sought = held i is }; is = sym (done_one told) }
 
   answered : {entry : Entry} → Answers t g s entry → look_up_of t g s ≡ done entry
   answered {entry} this =
@@ -236,15 +236,15 @@ module _ (t : ℤ) (g : ℕ) (s s' : List ℕ) (else_same : OtherwiseSame t g s 
   place_same =
       let u = half_degree_signed t in
       let f = half_degree g in
-      same places (place_if (has_pair s u f)) (place_if (has_pair s' u f)) (records_in 8 s) 0 (λ j _ _. ap (λ (b : Bool). cond b (some j) none) (pair_same u f j))
+      same places (place_if (has_pair s u f)) (place_if (has_pair s' u f)) (records_in 8 s) 0 (λ j _ _. ap (λ (b : Bool). cond b (Some j) None) (pair_same u f j))
       ∙ ap (λ (n : ℕ). first_place (has_pair s' u f) n 0) count_same
 
   entry_same : (i : ℕ) → Sought t g s i → entry_at s i ≡ entry_at s' i
   entry_same i sought = let e = else_same in λ k. record { temperature = e.temperature i k; gravity = e.gravity i k; compressibility = e.found i sought k }
 
   record_found_same : (o : Option ℕ) → place ≡ o → record_found s o ≡ record_found s' o
-  record_found_same none is = refl
-  record_found_same (some i) is = ap done (entry_same i (held t g s i is))
+  record_found_same None is = refl
+  record_found_same (Some i) is = ap done (entry_same i (held t g s i is))
 
   answer_same : look_up_of t g s ≡ look_up_of t g s'
   unfolding look_up_of found_in

@@ -1,7 +1,7 @@
 -- The first five runs and the first three volumes of a draw that meet the limit: what was found, of the factors and volumes by their places.
+use Rattle.std.specs.Prelude.{None, Some}
 use mathlib.Core.Path.{◌≡◌, refl, ap, ◌∙◌}
 use mathlib.Core.List.{List, [], ◌∷◌}
-use mathlib.Core.Option.{none, some}
 use Prim.Native.Nat.{ℕ, ◌+◌, ◌≤◌, ◌<◌}
 use native.Mathlib.Omega.{arith}
 use lib.ListN.{length, get_or}
@@ -41,16 +41,16 @@ module _ (prover : Prover) (k : ℕ) (form : Form) (s : List ℕ) where
 
   module _ (limit : ℕ) where
     -- where no group is found, no five meet the limit
-    pub no_five : first_five prover k limit form s ≡ none → (at : ℕ) → FiveMeet prover k limit form s at → ⊥
+    pub no_five : first_five prover k limit form s ≡ None → (at : ℕ) → FiveMeet prover k limit form s at → ⊥
     unfolding first_five
     no_five is at five = some_found (factor_at prover k form s) (factors_of prover k form s) factor_values 5 limit at (omega (arith, five.room, factor_count)) five.meet is
 
     -- where one is, it is the first five that do
-    pub least_five : (at : ℕ) → first_five prover k limit form s ≡ some at → Least (factor_at prover k form s) (factors_of prover k form s) factor_values 5 limit at
+    pub least_five : (at : ℕ) → first_five prover k limit form s ≡ Some at → Least (factor_at prover k form s) (factors_of prover k form s) factor_values 5 limit at
     unfolding first_five
     least_five at is = first_least (factor_at prover k form s) (factors_of prover k form s) factor_values 5 limit (first_found limit 5 (factors_of prover k form s) is)
 
-    pub first_five_meet : (at : ℕ) → first_five prover k limit form s ≡ some at → FiveMeet prover k limit form s at
+    pub first_five_meet : (at : ℕ) → first_five prover k limit form s ≡ Some at → FiveMeet prover k limit form s at
     first_five_meet at is = let least = least_five at is in record { room = omega (arith, least.room, factor_count); meet = least.meet }
 
 module _ (profile : Profile) (prover : Prover) (s : List ℕ) where
@@ -63,12 +63,12 @@ module _ (profile : Profile) (prover : Prover) (s : List ℕ) where
   volume_values i h = listed_value (volume_of profile prover s) (volume_count profile s) 1 i (omega (arith, listed_length (volume_of profile prover s) (volume_count profile s) 1)) ∙ ap (volume_of profile prover s) (omega arith)
 
   -- where no group is found, no three meet the limit
-  pub no_three : first_group 2 3 (volumes_of profile prover s) ≡ none → (at : ℕ) → ThreeMeet profile prover s at → ⊥
+  pub no_three : first_group 2 3 (volumes_of profile prover s) ≡ None → (at : ℕ) → ThreeMeet profile prover s at → ⊥
   no_three is at three = some_found (volume_at profile prover s) (volumes_of profile prover s) volume_values 3 2 at (omega (arith, three.room, volume-count)) three.meet is
 
   -- where one is, it is the first three that do
-  pub least_three : (at : ℕ) → first_group 2 3 (volumes_of profile prover s) ≡ some at → Least (volume_at profile prover s) (volumes_of profile prover s) volume_values 3 2 at
+  pub least_three : (at : ℕ) → first_group 2 3 (volumes_of profile prover s) ≡ Some at → Least (volume_at profile prover s) (volumes_of profile prover s) volume_values 3 2 at
   least_three at is = first_least (volume_at profile prover s) (volumes_of profile prover s) volume_values 3 2 (first_found 2 3 (volumes_of profile prover s) is)
 
-  pub first_three_meet : (at : ℕ) → first_group 2 3 (volumes_of profile prover s) ≡ some at → ThreeMeet profile prover s at
+  pub first_three_meet : (at : ℕ) → first_group 2 3 (volumes_of profile prover s) ≡ Some at → ThreeMeet profile prover s at
   first_three_meet at is = let least = least_three at is in record { room = omega (arith, least.room, volume-count); meet = least.meet }

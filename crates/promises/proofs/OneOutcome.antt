@@ -1,17 +1,8 @@
 -- One outcome for each public function: its contract gives the answer, or what the answer tells, which loses nothing.
 use mathlib.Core.Path.{◌≡◌, sym, ◌∙◌}
-use Rattle.refusals.proofs.Laws.{verdict_one}
-use Rattle.group.proofs.Groups.{place_one}
-use Rattle.group.proofs.Spreads.{spread_one}
-use Rattle.factors.proofs.Values.{told_one as factor-one}
-use Rattle.run.proofs.Laws.{told_one as worked-one}
-use Rattle.report.proofs.Laws.{told_one as report-one}
-use Rattle.moving.proofs.Laws.{told_one as moved-one}
-use Rattle.draw.proofs.Outcome.{fill_one, count_one, draw_one}
-use Rattle.ticket.proofs.Laws.{told_one as ticket_one}
-use Rattle.live.proofs.Answers.{told_one as live_one, panel_one}
-use Rattle.lookup.proofs.Outcome.{told_one as look_up_one}
-use Rattle.book.proofs.Outcomes.{changed_one, commons_one, handout_one}
+use Rattle.refusals.proofs.Laws.{verdict_one, told_one}
+use Rattle.draw.proofs.Outcome.{volumes_one}
+use Rattle.book.proofs.Outcomes.{changed_one}
 use Rattle.promises.specs.OneOutcome.{OneOutcome}
 
 -- two that are equal to a third are equal
@@ -65,9 +56,9 @@ one_outcome =
       factors_is_pipe_one = (λ _ _. tt, λ _ _ _ _ _ _. same);
       factors_is_prover_one = (λ _ _. tt, λ _ _ _ _ _ _. same);
       factors_is_liquid_one = (λ _ _. tt, λ _ _ _ _ _ _. same);
-      factors_cts_one = (λ _ _. tt, λ _ _ r q _ _ p p'. factor-one r q (same p p'));
-      factors_cps_one = (λ _ _. tt, λ _ _ r q _ _ p p'. factor-one r q (same p p'));
-      factors_cpl_one = (λ _ _. tt, λ _ _ r q _ _ p p'. factor-one r q (same p p'));
+      factors_cts_one = (λ _ _. tt, λ _ _ r q _ _ p p'. told_one r q (same p p'));
+      factors_cps_one = (λ _ _. tt, λ _ _ r q _ _ p p'. told_one r q (same p p'));
+      factors_cpl_one = (λ _ _. tt, λ _ _ r q _ _ p p'. told_one r q (same p p'));
       factors_value_or_zero_one = (λ _ _. tt, λ _ _ _ _ _ _. same);
       factors_combine_one = (λ _ _. tt, λ _ _ _ _ _ _. same);
       factors_combined_or_zero_one = (λ _ _. tt, λ _ _ _ _ _ _. same);
@@ -83,39 +74,39 @@ one_outcome =
       octets_write_at_any = λ _ _. tt;
       octets_write_at_one = λ _ _ _ _ _ _. same;
       group_is_group_one = (λ _ _. tt, λ _ _ _ _ _ _. same);
-      group_first_group_one = (λ _ _. tt, λ _ _ r q _ _ p p'. place_one r q (same p p'));
+      group_first_group_one = (λ _ _. tt, λ _ _ _ _ _ _. same);
       group_mean_one = (λ _ _. tt, λ _ _ _ _ _ _. same);
-      group_find_spread_one = (λ _ _. tt, λ _ _ r q _ _ p p'. spread_one r q (same p p'));
-      report_write_one = (λ _ _. tt, λ _ _ r q _ _ p p'. report-one r q (same p.0 p'.0));
+      group_find_spread_one = (λ _ _. tt, λ _ _ r q _ _ p p'. told_one r q (same p p'));
+      report_write_one = (λ _ _. tt, λ _ _ r q _ _ p p'. told_one r q (same p.0 p'.0));
       report_write_left = λ _ _ _ _ _ _ p p'. same p.1 p'.1;
-      report_read_one = (λ _ _. tt, λ _ _ r q _ _ p p'. report-one r q (same p p'));
+      report_read_one = (λ _ _. tt, λ _ _ r q _ _ p p'. told_one r q (same p p'));
       run_records_size_one = (λ _ _. tt, λ _ _ _ _ _ _. same);
       run_records_decode_one = (λ _ _. tt, λ _ _ _ _ _ _. same);
       run_records_judge_record_one = (λ _ _. tt, λ _ _ r q _ _ p p'. verdict_one r q (same p p'));
-      run_work_out_one = (λ _ _. tt, λ _ _ r q _ _ p p'. worked-one r q (same p p'));
-      run_show_one = (λ _ _. tt, λ _ _ r q _ _ p p'. worked-one r q (same p p'));
-      proving_prove_one = (λ _ _. tt, λ _ _ r q _ _ p p'. report-one r q (same p.0 p'.0));
+      run_work_out_one = (λ _ _. tt, λ _ _ r q _ _ p p'. told_one r q (same p p'));
+      run_show_one = (λ _ _. tt, λ _ _ r q _ _ p p'. told_one r q (same p p'));
+      proving_prove_one = (λ _ _. tt, λ _ _ r q _ _ p p'. told_one r q (same p.0 p'.0));
       proving_prove_left = λ _ _ _ _ _ _ p p'. same p.1 p'.1;
       proving_accept_one = (λ _ _. tt, λ _ _ _ _ _ _. same);
-      moving_forward_one = (λ _ _. tt, λ _ _ r q _ _ p p'. moved-one r q (same p.0 p'.0));
+      moving_forward_one = (λ _ _. tt, λ _ _ r q _ _ p p'. told_one r q (same p.0 p'.0));
       moving_forward_left = λ _ _ _ _ _ _ p p'. same p.1 p'.1;
-      moving_back_one = (λ _ _. tt, λ _ _ r q _ _ p p'. moved-one r q (same p.0 p'.0));
+      moving_back_one = (λ _ _. tt, λ _ _ r q _ _ p p'. told_one r q (same p.0 p'.0));
       moving_back_left = λ _ _ _ _ _ _ p p'. same p.1 p'.1;
-      draw_fill_one = (λ _ _. tt, λ _ _ r q _ _ p p'. fill_one r q (same p p'));
-      draw_volumes_one = (λ _ _. tt, λ _ _ r q _ _ p p' i. record { answer = count_one r.answer q.answer (same p.0 p'.0) i; volumes = same p.1 p'.1 i });
-      draw_draw_one = (λ _ _. tt, λ _ _ r q _ _ p p'. draw_one r q (same p p'));
-      ticket_work_out_one = (λ _ _. tt, λ _ _ r q _ _ p p'. ticket_one r q (same p p'));
-      live_convert_one = (λ _ _. tt, λ _ _ r q _ _ p p'. live_one r q (same p p'));
+      draw_fill_one = (λ _ _. tt, λ _ _ r q _ _ p p'. told_one r q (same p p'));
+      draw_volumes_one = (λ _ _. tt, λ _ _ r q _ _ p p'. volumes_one r q (same p.0 p'.0) (same p.1 p'.1));
+      draw_draw_one = (λ _ _. tt, λ _ _ r q _ _ p p'. told_one r q (same p p'));
+      ticket_work_out_one = (λ _ _. tt, λ _ _ r q _ _ p p'. told_one r q (same p p'));
+      live_convert_one = (λ _ _. tt, λ _ _ r q _ _ p p'. told_one r q (same p p'));
       live_from_bits_one = (λ _ _. tt, λ _ _ _ _ _ _. same);
-      live_convert_channels_one = (λ _ _. tt, λ _ _ r q _ _ p p'. live_one r q (same p p'));
-      live_show_temperature_one = (λ _ _. tt, λ _ _ r q _ _ p p'. panel_one r q (same p p'));
-      live_show_pressure_one = (λ _ _. tt, λ _ _ r q _ _ p p'. panel_one r q (same p p'));
-      lookup_look_up_one = (λ _ _. tt, λ _ _ r q _ _ p p'. look_up_one r q (same p p'));
+      live_convert_channels_one = (λ _ _. tt, λ _ _ r q _ _ p p'. told_one r q (same p p'));
+      live_show_temperature_one = (λ _ _. tt, λ _ _ r q _ _ p p'. told_one r q (same p p'));
+      live_show_pressure_one = (λ _ _. tt, λ _ _ r q _ _ p p'. told_one r q (same p p'));
+      lookup_look_up_one = (λ _ _. tt, λ _ _ r q _ _ p p'. told_one r q (same p p'));
       book_empty_one = (λ _ _. tt, λ _ _ _ _ _ _. same);
       book_is_sound_one = (λ _ _. tt, λ _ _ _ _ _ _. same);
       book_request_one = (λ _ _. tt, λ _ _ r q _ _ p p'. changed_one r q (same p.0 p'.0) (same p.1 p'.1));
       book_withdraw_one = (λ _ _. tt, λ _ _ r q _ _ p p'. changed_one r q (same p.0 p'.0) (same p.1 p'.1));
-      book_take_one = (λ _ _. tt, λ _ _ r q _ _ p p' i. record { book = same p.1 p'.1 i; answer = handout_one r.answer q.answer (same p.0 p'.0) i });
+      book_take_one = (λ _ _. tt, λ _ _ r q _ _ p p' i. record { book = same p.1 p'.1 i; answer = told_one r.answer q.answer (same p.0 p'.0) i });
       book_set_figures_one = (λ _ _. tt, λ _ _ r q _ _ p p'. changed_one r q (same p.0 p'.0) (same p.1 p'.1));
-      book_tell_commons_one = (λ _ _. tt, λ _ _ r q _ _ p p'. commons_one r q (same p p'));
+      book_tell_commons_one = (λ _ _. tt, λ _ _ r q _ _ p p'. told_one r q (same p p'));
     }

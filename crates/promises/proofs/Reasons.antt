@@ -1,10 +1,10 @@
 -- Judging in order, exactly: it finds nothing when all is in order, and a number with its record for its cause; and only then. Once for a
 -- test, for one judgement after another, for records first to last, and for the answer that follows.
+use Rattle.std.specs.Prelude.{Option, None, Some}
 use mathlib.Core.Path.{◌≡◌, refl, sym, ap, ◌∙◌, subst}
 use mathlib.Core.Bool.{Bool, true, false, ◌&&◌}
 use mathlib.Core.Logic.Iff
 use mathlib.Core.Logic.{◌↔◌, ◌⊎◌, inl, inr}
-use mathlib.Core.Option.{Option, none, some}
 use Prim.Native.Nat.{ℕ, ◌<◌}
 use native.Mathlib.Omega.{arith}
 use Rattle.refusals.specs.Told.{Told, done, refused, Fault, fine, fault, demand_at, or_else, unless, judged}
@@ -212,16 +212,16 @@ module _ {R A : Type 0} {C : ℕ → ℕ → Type 0} where
       either (refused number at) tells = inr (number, at, tells.because refl)
 
 -- what is told of a place that is found, and a number for none
-pub tells_place : {R Group : Type 0} (number : ℕ) (told : Option ℕ → Told R) (follows : ℕ → R) → told none ≡ refused number 0 → ((at : ℕ) → told (some at) ≡ done (follows at))
-    → (o : Option ℕ) → ((at : ℕ) → o ≡ some at → Group) → (o ≡ none → Group → ⊥) → Tells Group (At number 0 (Group → ⊥)) (told o)
-tells_place {R} {Group} number told follows not_found found none some-group no_group =
+pub tells_place : {R Group : Type 0} (number : ℕ) (told : Option ℕ → Told R) (follows : ℕ → R) → told None ≡ refused number 0 → ((at : ℕ) → told (Some at) ≡ done (follows at))
+    → (o : Option ℕ) → ((at : ℕ) → o ≡ Some at → Group) → (o ≡ None → Group → ⊥) → Tells Group (At number 0 (Group → ⊥)) (told o)
+tells_place {R} {Group} number told follows not_found found None some-group no_group =
     record {
       gives = λ group. absurd (no_group refl group);
       accepted = λ is. absurd (refused_not_done (sym not_found ∙ is));
       refuses = elim [ here _ ↦ not_found ];
       because = λ is. let same = sym not_found ∙ is in moved (At number 0 (Group → ⊥)) (refused_number same) (refused_record same) (here (no_group refl));
     }
-tells_place {R} {Group} number told follows not_found found (some at) some-group no_group =
+tells_place {R} {Group} number told follows not_found found (Some at) some-group no_group =
     record {
       gives = λ _. (follows at, found at);
       accepted = λ _. some-group at refl;
@@ -230,5 +230,5 @@ tells_place {R} {Group} number told follows not_found found (some at) some-group
     }
 
 -- 9 for no group
-pub tells_nine : {R Group : Type 0} (o : Option ℕ) (follows : ℕ → R) → ((at : ℕ) → o ≡ some at → Group) → (o ≡ none → Group → ⊥) → Tells Group (At 9 0 (Group → ⊥)) (nine_unless o follows)
+pub tells_nine : {R Group : Type 0} (o : Option ℕ) (follows : ℕ → R) → ((at : ℕ) → o ≡ Some at → Group) → (o ≡ None → Group → ⊥) → Tells Group (At 9 0 (Group → ⊥)) (nine_unless o follows)
 tells_nine o follows = tells_place 9 (λ (place : Option ℕ). nine_unless place follows) follows refl (λ _. refl) o

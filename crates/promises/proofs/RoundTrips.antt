@@ -1,21 +1,19 @@
 -- The round trips of the contracts: each answer tells its meaning and leaves its bytes, of which the round trips are proved in `report`
 -- and `proving`.
+use Rattle.std.specs.Prelude.{Ok, Option}
 use mathlib.Core.Path.{◌≡◌, sym, ap, ◌∙◌}
 use mathlib.Core.List.{List, []}
-use mathlib.Core.Option.{Option}
 use Prim.Native.Nat.{ℕ, ◌+◌, ◌*◌, ◌^◌, ◌<◌}
 use lib.ListN.{length, take, drop}
 use Rattle.refusals.specs.Told.{Told, done, refused, left_by}
-use Rattle.refusals.proofs.Laws.{unless_fine}
+use Rattle.refusals.proofs.Laws.{unless_fine, told_one}
 use Rattle.factors.specs.declared.Prover.{Prover}
 use Rattle.group.specs.Repeatability.{nine_unless}
 use Rattle.run.specs.Record.{size_of}
 use Rattle.run.specs.declared.Form.{Form}
 use Rattle.report.specs.Record.{bytes_of_report}
-use Rattle.report.specs.Judged.{write_of, read_of, told}
+use Rattle.report.specs.Judged.{write_of, read_of}
 use Rattle.report.specs.declared.Report.{Report}
-use Rattle.report.specs.declared.Answer.TheVariants.{Fields}
-use Rattle.report.proofs.Laws.{told_one}
 use Rattle.report.proofs.RoundTrips.{write_read, read_writable, read-write}
 use Rattle.proving.specs.Judging.{runs_in}
 use Rattle.proving.specs.Job.{factors_of, five_at, found_of, job_of, accepted_by, accepted_of}
@@ -25,6 +23,7 @@ use Rattle.promises.specs.Arguments.{first, second, third, fourth, fifth, sixth,
 use Rattle.promises.specs.Proving.{Asked}
 use Rattle.promises.specs.RoundTrips.{FiveFrom, RoundTrips}
 use Rattle.promises.proofs.Demand2.{five_found, accepted_only_when}
+use Rattle.refusals.specs.Answered.{told}
 
 module _ (request : ℕ) (prover : Prover) (k limit : ℕ) (form : Form) (s out : List ℕ) where
   -- the bytes of a job's report are read back as the report
@@ -66,14 +65,14 @@ round_trips =
     record {
       job_read_back = λ κ a r x κ' b q y report p p' small is same.
           let job = sym p.0 ∙ ap told is in
-          told_one q (Fields report) (p' ∙ ap read_of (same ∙ p.1) ∙ job_back (first a) (second a) (third a) (fourth a) (fifth a) (sixth a).now (seventh a).now small job);
+          told_one q (Ok report) (p' ∙ ap read_of (same ∙ p.1) ∙ job_back (first a) (second a) (third a) (fourth a) (fifth a) (sixth a).now (seventh a).now small job);
       write_then_read = λ κ a r x κ' b q y report p p' small is same.
-          told_one q (Fields report) (p' ∙ ap read_of (same ∙ p.1) ∙ write_read (first a) (second a) (third a) (fourth a) (fifth a).now small (sym p.0 ∙ ap told is));
+          told_one q (Ok report) (p' ∙ ap read_of (same ∙ p.1) ∙ write_read (first a) (second a) (third a) (fourth a) (fifth a).now small (sym p.0 ∙ ap told is));
       read_then_write = λ κ a r x κ' b q y report p p' bytes is number runs begin factors long.
           let fields : read_of (first a).now ≡ done report = sym p ∙ ap told is in
           let given : write_of (length (fifth b).now) (first b) (second b) (third b) (fourth b) ≡ write_of (length (fifth b).now) report.number report.runs report.first report.factors =
           λ i. write_of (length (fifth b).now) (number i) (runs i) (begin i) (factors i) in (
-            told_one q (Fields report) (p'.0 ∙ given ∙ ap (λ (n : ℕ). write_of n report.number report.runs report.first report.factors) long ∙ read_writable (first a).now fields),
+            told_one q (Ok report) (p'.0 ∙ given ∙ ap (λ (n : ℕ). write_of n report.number report.runs report.first report.factors) long ∙ read_writable (first a).now fields),
             p'.1 ∙ ap (λ (t : Told Report). left_by t bytes_of_report (fifth b).now) given ∙ read-write (first a).now (fifth b).now bytes long fields,
           );
       accepted_from = λ κ a r x κ' b q y report p p' prover k limit form records is.

@@ -1,9 +1,9 @@
 -- What the code does over a session is what the book's meanings say: each face's contract gives the meaning of a call, and a session is
 -- made of calls.
+use Rattle.std.specs.Prelude.{Result, Ok, Err, Option, None, Some}
 use mathlib.Core.Path.{◌≡◌, refl, sym, ap, ◌∙◌}
 use mathlib.Core.Bool.{Bool, true, false, not}
 use mathlib.Core.List.{List, [], ◌∷◌}
-use mathlib.Core.Option.{Option, none, some}
 use Prim.Native.Nat.{ℕ}
 use lib.Dec.{ltb, eqb}
 use Rattle.refusals.specs.Told.{Told, refused, Fault, fine, fault, demand, or_else, unless, judged}
@@ -11,21 +11,18 @@ use Rattle.refusals.specs.Table.{number_of, record_of}
 use Rattle.refusals.specs.declared.Refusal.{Refusal}
 use Rattle.refusals.specs.declared.Refusal.TheVariants.{BookNotSound, UnknownShipper, NumberZero, AlreadyWaiting, CeilingReached, CommonsFull, NotWaiting, NothingToTake, BookNotEmpty, FiguresOutside}
 use Rattle.octets.specs.Lists.{is_one_of}
-use Rattle.book.specs.Answers.{told_change, told_take}
 use Rattle.book.specs.Figures.{shippers, ceiling, waiting_of, has, held}
 use Rattle.book.specs.Rules.{keep_rules}
 use Rattle.book.specs.Calls.{call_fault, has_room, entry_fault, request_fault, request_of, after_request, withdrawal_fault, withdrawal_of, after_withdrawal, next_turn, oldest_of, handed_out, take_of, after_take, setting_fault, setting_of, after_setting}
 use Rattle.book.specs.Demand3.{Call, request, withdrawal, take, setting, Answer, no_request, answer_to, after, after_all, Step, step, answers_to}
 use Rattle.book.specs.Sound.{is_sound}
 use Rattle.book.specs.declared.Book.{Book}
-use Rattle.book.specs.declared.Change.{Change}
 use Rattle.book.specs.declared.Figures.{Figures}
-use Rattle.book.specs.declared.Change.TheVariants.{Made, Refused}
-use Rattle.book.specs.declared.Handout.{Handout}
-use Rattle.book.specs.declared.Handout.TheVariants as handout
 use Rattle.api.specs.Flat.{flat_done, flat_taken}
 use Rattle.promises.specs.Sessions.{Contracts, Session, about, about_none, ByValue, KeptInPlace, FromC, calls_of, AsMeant, Sessions}
 use Rattle.promises.proofs.EntriesC.{entries_c}
+use Rattle.refusals.specs.Answered.{told}
+use Rattle.book.specs.declared.Handed.{Handed}
 
 -- ---- a session of calls that each do what they mean
 
@@ -61,12 +58,12 @@ about_judged shipper number (fault n at) = refl
 -- ---- every answer of the meanings has a case that tells it
 
 record Tells (f : Fault) : Type 0 where
-  case : Change
-  tells : told_change case ≡ judged f tt
+  case : Result Unit Refusal
+  tells : told case ≡ judged f tt
 
 tells_demand : (t : Bool) (refusal : Refusal) → record_of refusal ≡ 0 → Tells (demand t (number_of refusal))
-tells_demand true refusal plain = record { case = Made; tells = refl }
-tells_demand false refusal plain = record { case = Refused refusal; tells = λ i. refused (number_of refusal) (plain i) }
+tells_demand true refusal plain = record { case = (Ok tt); tells = refl }
+tells_demand false refusal plain = record { case = Err refusal; tells = λ i. refused (number_of refusal) (plain i) }
 
 tells_or_else : (f g : Fault) → Tells f → Tells g → Tells (or_else f g)
 tells_or_else fine g p q = q
@@ -95,14 +92,14 @@ tells_setting book figures =
     tells_or_else _ _ (tells_demand (is_sound book) BookNotSound refl)
     (tells_or_else _ _ (tells_demand (eqb (held book) 0) BookNotEmpty refl) (tells_demand (keep_rules figures) FiguresOutside refl))
 
-tells_take : (book : Book) → (r : Handout) × (told_take r ≡ take_of book)
+tells_take : (book : Book) → (r : Result Handed Refusal) × (told r ≡ take_of book)
 unfolding take_of handed_out oldest_of
 tells_take book = by (is_sound book) (next_turn book)
   where
-    by : (t : Bool) (next : Option ℕ) → (r : Handout) × (told_take r ≡ unless (demand t 20) (handed_out book next))
-    by false next = (handout.Refused BookNotSound, refl)
-    by true none = (handout.Refused NothingToTake, refl)
-    by true (some turn) = (handout.Handed _ _, refl)
+    by : (t : Bool) (next : Option ℕ) → (r : Result Handed Refusal) × (told r ≡ unless (demand t 20) (handed_out book next))
+    by false next = (Err BookNotSound, refl)
+    by true None = (Err NothingToTake, refl)
+    by true (Some turn) = (Ok _, refl)
 
 -- the answer that a case tells, of the request that was named
 told_about : (shipper number : ℕ) (f : Fault) (t : Told Unit) → t ≡ judged f tt → about shipper number t ≡ judged f (record { shipper = shipper; number = number })

@@ -1,9 +1,9 @@
 -- Smart transmitters, exactly: each channel is read or refused for its cause, and the first before the second.
+use Rattle.std.specs.Prelude.{Option, None, Some}
 use mathlib.Core.Path.{◌≡◌, refl, sym, ap, ◌∙◌, subst}
 use mathlib.Core.Logic.Iff
 use mathlib.Core.Logic.{◌↔◌}
 use mathlib.Core.Bool.{Bool, true, false}
-use mathlib.Core.Option.{Option, none, some}
 use Prim.Native.Nat.{ℕ, ◌≤◌}
 use native.Mathlib.Omega.{arith}
 use borrow.Author.Tests.{ne_eqb, lt-ltb, ltb-true}
@@ -11,16 +11,16 @@ use lib.IntN.{ℤ, pos, nat_abs}
 use lib.Ieee.{binary32, of_bits}
 use lib.Ieee.Scale.{finite}
 use Rattle.refusals.specs.Told.{Told, done, refused, Fault as Found, fine, fault, judged}
-use Rattle.refusals.proofs.Laws.{done_one, refused_number, refused_record, refused_not_done}
+use Rattle.refusals.proofs.Laws.{done_one, refused_number, refused_record, refused_not_done, told_one}
 use Rattle.ranges.specs.Table.{temperature_ok}
-use Rattle.live.specs.Live.{Values, whole_of, single_of, temperature_of, psi_ok, pressure_of, in_order, live_of}
+use Rattle.live.specs.Live.{whole_of, single_of, temperature_of, psi_ok, pressure_of, in_order, live_of}
+use Rattle.live.specs.declared.Values.{Values}
 use Rattle.live.specs.Channels.{celsius_of, temperature_channel_of, pressure_channel_of, channels_of}
 use Rattle.live.specs.declared.channels.Channel.{Channel}
 use Rattle.live.specs.declared.channels.Channel.TheVariants.{Fahrenheit, Celsius, Pressure, Fault}
 use Rattle.live.proofs.Fields.{finite_by_field}
 use Rattle.live.proofs.Value.{whole_nearest, whole_only}
-use Rattle.live.proofs.Answers.{single_fault, told_one}
-use Rattle.live.proofs.Taken.{pressure_taken}
+use Rattle.promises.proofs.SinglesJudged.{single_fault, pressure_taken}
 use Rattle.api.specs.Given.{channel_by, temperature_by, pressure_by}
 use Rattle.api.specs.Flat.{flat_live}
 use Rattle.api.specs.declared.readings.EndakuroChannel.{EndakuroChannel}
@@ -46,10 +46,10 @@ not_fault : (channel : Channel) → is_fault channel ≡ false → (code : ℕ) 
 unfolding is_fault
 not_fault channel is code e = apart (sym (ap is_fault e) ∙ is)
 
-some_one : {s t : Scaled} → some t ≡ some s → t ≡ s
+some_one : {s t : Scaled} → Some t ≡ Some s → t ≡ s
 some_one e = cc
 
-none_not_some : {s : Scaled} → none ≡ some s → ⊥
+none_not_some : {s : Scaled} → None ≡ Some s → ⊥
 none_not_some e = let z : ◌≡◌ {A = ℕ} 0 1 = cc in omega arith
 
 module _ (sent : Channel → Option Scaled) (in_range : ℤ → Bool) (channel : Channel) where
@@ -60,17 +60,17 @@ module _ (sent : Channel → Option Scaled) (in_range : ℤ → Bool) (channel :
   Cause = ChannelCause sent in_range channel
 
   -- a channel that has a single in its place is judged as the single is
-  module _ (s : Scaled) (is : sent channel ≡ some s) (no_fault : (code : ℕ) → channel ≡ Fault code → ⊥) where
+  module _ (s : Scaled) (is : sent channel ≡ Some s) (no_fault : (code : ℕ) → channel ≡ Fault code → ⊥) where
     abbrev whole : ℤ
     whole = whole_of s.o s.k s.x
 
     abbrev OfSingle : ℕ → ℕ → Type 0
     OfSingle = InTurn (At 12 0 (finite s.x ≡ false)) (finite s.x ≡ true) (At 13 0 (in_range whole ≡ false))
 
-    same : (t : Scaled) → sent channel ≡ some t → t ≡ s
+    same : (t : Scaled) → sent channel ≡ Some t → t ≡ s
     same t e = some_one (sym e ∙ is)
 
-    same_whole : (t : Scaled) (n : ℤ) → sent channel ≡ some t → RoundedAway t n → n ≡ whole
+    same_whole : (t : Scaled) (n : ℤ) → sent channel ≡ Some t → RoundedAway t n → n ≡ whole
     same_whole t n e away = (rounded s).only n (subst (λ (u : Scaled). RoundedAway u n) (same t e) away).near
 
     was_read : (n : ℤ) → Read n → (finite s.x ≡ true) × (in_range whole ≡ true) × (n ≡ whole)
@@ -112,7 +112,7 @@ module _ (sent : Channel → Option Scaled) (in_range : ℤ → Bool) (channel :
     )
 
   -- one that has none is refused outright
-  module _ (is : sent channel ≡ none) where
+  module _ (is : sent channel ≡ None) where
     unread : (n : ℤ) → Read n → ⊥
     unread n (read t e number away ok) = none_not_some (sym is ∙ e)
 

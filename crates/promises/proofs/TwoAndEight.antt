@@ -14,7 +14,7 @@ use Rattle.octets.specs.Lists.{is_one_of}
 use Rattle.book.specs.Figures.{shippers, over_shippers, reserve, ceiling, line_at, waiting_of, has, beyond, commons_used, default_figures}
 use Rattle.book.specs.Rules.{keep_rules}
 use Rattle.book.specs.Sound.{is_line_sound, is_sound_at, are_lines_sound, is_sound}
-use Rattle.book.specs.Answers.{Handed}
+use Rattle.book.specs.declared.Handed.{Handed}
 use Rattle.book.specs.Calls.{call_fault, has_room, entry_fault, request_fault, request_of, entered, after_request, withdrawal_fault, withdrawal_of, removed, after_withdrawal, next_turn, handed_out, take_of, after_take}
 use Rattle.book.specs.declared.Book.{Book}
 use Rattle.book.proofs.Demand3.{default-figures}

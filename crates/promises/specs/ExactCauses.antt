@@ -6,8 +6,6 @@ use Rattle.std.specs.Prelude.{◌≡◌, ◌↔◌, ◌⊎◌, List, [], ℕ, le
 use Rattle.refusals.specs.Told.{refused}
 use Rattle.factors.specs.declared.Prover.{Prover}
 use Rattle.run.specs.declared.Form.{Form}
-use Rattle.report.specs.Judged.{told as told_report}
-use Rattle.draw.specs.Answers.{told_count, told_draw}
 use Rattle.draw.specs.declared.Profile.{Profile}
 use Rattle.proving.proofs.prove.Reads as prove
 use Rattle.proving.proofs.accept.Reads as accept
@@ -17,6 +15,7 @@ use Rattle.promises.specs.Arguments.{first, second, third, fourth, fifth, sixth,
 use Rattle.promises.specs.Proving.{Asked, Acceptable}
 use Rattle.promises.specs.WaterDraw as water
 use Rattle.promises.specs.Causes.{ProvingCause, JobCause, PassesCause, DrawCause}
+use Rattle.refusals.specs.Answered.{told}
 
 -- accepted, or refused for one cause
 pub record OneCause (Accepted : Type 0) (Cause : ℕ → ℕ → Type 0) : Type 0 where
@@ -31,11 +30,11 @@ pub record ExactCauses : Type 0 where
   pub one_of_passes : (profile : Profile) (prover : Prover) (s : List ℕ) → OneCause (water.InputWithin profile prover s) (PassesCause profile prover s)
   pub one_of_draw : (profile : Profile) (prover : Prover) (s : List ℕ) → OneCause (water.Acceptable profile prover s) (DrawCause profile prover s)
   pub prove-exactly : (κ : _) (a : _) (r : _) (x : _) (number at : ℕ) → prove.Post κ a r x
-      → (told_report r ≡ refused number at) ↔ JobCause (first a) (second a) (third a) (fourth a) (fifth a) (sixth a).now (length (seventh a).now) number at
+      → (told r ≡ refused number at) ↔ JobCause (first a) (second a) (third a) (fourth a) (fifth a) (sixth a).now (length (seventh a).now) number at
   -- the entry that hands run records back gives no number: it hands back none exactly when there is a cause
   pub accept_exactly : (κ : _) (a : _) (r : _) (x : _) → accept.Post κ a r x
       → (r.now ≡ []) ↔ ((number : ℕ) × (at : ℕ) × ProvingCause (first a) (second a) (third a) (fourth a) (fifth a).now number at)
   pub volumes_exactly : (κ : _) (a : _) (r : _) (x : _) (number at : ℕ) → volumes.Post κ a r x
-      → (told_count r.answer ≡ refused number at) ↔ PassesCause (first a) (second a) (third a).now number at
+      → (told r ≡ refused number at) ↔ PassesCause (first a) (second a) (third a).now number at
   pub draw_exactly : (κ : _) (a : _) (r : _) (x : _) (number at : ℕ) → draw.Post κ a r x
-      → (told_draw r ≡ refused number at) ↔ DrawCause (first a) (second a) (third a).now number at
+      → (told r ≡ refused number at) ↔ DrawCause (first a) (second a) (third a).now number at

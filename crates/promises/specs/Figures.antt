@@ -1,7 +1,6 @@
 -- 01, 'Figures to hold against': 'Those marked P, 15 figures, are proved of the meanings themselves as one table under a single statement.'
 -- One field for each line's figure, under the paper's words.
-use Rattle.std.specs.Prelude.{◌≡◌, true, false, List, [], ◌∷◌, ◌++◌, ℕ, zero, suc, ◌+◌, ◌*◌, pos, neg_ℤ, length, replicate}
-use Rattle.std.proofs.Math.Option.{some}
+use Rattle.std.specs.Prelude.{◌≡◌, true, false, List, [], ◌∷◌, ◌++◌, ℕ, zero, suc, ◌+◌, ◌*◌, pos, neg_ℤ, length, replicate, Some}
 use Rattle.std.specs.Float.{nan, binary32}
 use Rattle.std.specs.Float.Ieee.{of_bits}
 use Rattle.refusals.specs.Told.{done, refused, fine, unless, left_by}
@@ -123,7 +122,7 @@ pub record Figures : Type 0 where
   pub may_not : qualifies 5 (9999 ∷ 10004 ∷ 10000 ∷ 10001 ∷ 10002 ∷ []) ≡ false
   -- 10. '10010, 10000, 10001, 10002, 10003, 10005: group begins at run 2. Report for request 7:
   -- `07 00 00 00 12 27 02 06 10 27 11 27 12 27 13 27 15 27`, then 14 zero bytes.' (Places count from 0, runs from 1.)
-  pub begins_at_run_2 : first_group 5 5 six ≡ some 1
+  pub begins_at_run_2 : first_group 5 5 six ≡ Some 1
   pub report_for_7 : report_on six
       ≡ 0x07 ∷ 0x00 ∷ 0x00 ∷ 0x00 ∷ 0x12 ∷ 0x27 ∷ 0x02 ∷ 0x06 ∷ 0x10 ∷ 0x27 ∷ 0x11 ∷ 0x27 ∷ 0x12 ∷ 0x27 ∷ 0x13 ∷ 0x27 ∷ 0x15 ∷ 0x27 ∷ replicate 14 0
   pub report_read_back : read_of (report_on six) ≡ done (report_of 7 6 2 (five_at six 1))
@@ -167,7 +166,7 @@ pub record Besides : Type 0 where
   pub at_equilibrium : cpl_of 4 (propane 115).prover.liquid ≡ done 10000
   pub below_equilibrium : worked_of propane_prover 13188000 (propane 114) 3 ≡ refused 5 3
   -- 'Easy slips': taking the tightest five instead of the first; dividing the spread by the mean
-  pub first_not_tightest : first_group 5 5 (10005 ∷ 10000 ∷ 10000 ∷ 10000 ∷ 10000 ∷ 10000 ∷ []) ≡ some 0
+  pub first_not_tightest : first_group 5 5 (10005 ∷ 10000 ∷ 10000 ∷ 10000 ∷ 10000 ∷ 10000 ∷ []) ≡ Some 0
   pub by_smallest_not_mean : qualifies 5 (9999 ∷ 10004 ∷ 10004 ∷ 10004 ∷ 10004 ∷ []) ≡ false
   -- a mean whose half goes up, and one of values that add up to more than 64 bits
   pub half_goes_up : mean_of (10000 ∷ 10001 ∷ []) ≡ 10001

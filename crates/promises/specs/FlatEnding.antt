@@ -1,17 +1,16 @@
 -- Demand 1 for C: 'it ends with either its result or one number from the table in document 01 .., with the record at fault where there is
 -- one.' An answer is one struct there: the number, the record at fault (`at`) and the values.
-use Rattle.std.specs.Prelude.{◌≡◌, List, ℕ, zero, suc, Float}
+use Rattle.std.specs.Prelude.{◌≡◌, List, ℕ, zero, suc, Float, Result, Ok, Err}
 use Rattle.refusals.specs.Told.{Told, done, refused}
-use Rattle.exact.specs.declared.Quotient.{Quotient}
-use Rattle.exact.specs.declared.Quotient.TheVariants.{Value, ZeroDivisor, TooLarge}
 use Rattle.report.specs.declared.Report.{Report}
 use Rattle.run.specs.declared.Figures.{Figures}
 use Rattle.draw.specs.declared.FillFigures.{FillFigures}
 use Rattle.draw.specs.declared.BaseVolume.{BaseVolume}
 use Rattle.ticket.specs.declared.Volumes.{Volumes}
-use Rattle.live.specs.Live.{Values}
+use Rattle.live.specs.declared.Values.{Values}
 use Rattle.lookup.specs.declared.Entry.{Entry}
-use Rattle.book.specs.Answers.{Handed, Shared}
+use Rattle.book.specs.declared.Handed.{Handed}
+use Rattle.book.specs.declared.Shared.{Shared}
 use Rattle.api.specs.declared.corrections.EndakuroFactor.{EndakuroFactor}
 use Rattle.api.specs.declared.reports.EndakuroReport.{EndakuroReport}
 use Rattle.api.specs.declared.jobs.EndakuroRun.{EndakuroRun}
@@ -27,6 +26,8 @@ use Rattle.api.specs.declared.books.EndakuroDone.{EndakuroDone}
 use Rattle.api.specs.declared.books.EndakuroTaken.{EndakuroTaken}
 use Rattle.api.specs.declared.books.EndakuroCommons.{EndakuroCommons}
 use Rattle.promises.specs.Ending.{Ends}
+use Rattle.exact.specs.declared.QuotientError.TheVariants.{ZeroDivisor, TooLarge}
+use Rattle.exact.specs.declared.QuotientError.{QuotientError}
 
 pub record Flat (A : Type 0) : Type 0 where
   pub number : ℕ
@@ -116,7 +117,7 @@ abbrev pub commons_in : EndakuroCommons → Flat Shared
 commons_in f = record { number = f.number; at = f.at; values = record { commons = f.commons; used = f.used } }
 
 -- a rounded quotient, which has a kind and no number
-abbrev pub by_kind : ℕ → ℕ → Quotient
-by_kind zero value = Value value
-by_kind (suc zero) value = ZeroDivisor
-by_kind (suc (suc n)) value = TooLarge
+abbrev pub by_kind : ℕ → ℕ → Result ℕ QuotientError
+by_kind zero value = Ok value
+by_kind (suc zero) value = (Err ZeroDivisor)
+by_kind (suc (suc n)) value = (Err TooLarge)

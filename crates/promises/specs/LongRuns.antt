@@ -14,7 +14,6 @@ use Rattle.run.specs.Record.{size_of, run_at, run_ok, unnamed_ok}
 use Rattle.run.specs.Figures.{indicated}
 use Rattle.run.specs.declared.Form.{Form}
 use Rattle.run.specs.declared.Form.TheVariants.{Short, Long}
-use Rattle.moving.specs.Answers.{told}
 use Rattle.moving.specs.Judging.{buffer_ok, is_whole}
 use Rattle.moving.proofs.forward.Reads as forward
 use Rattle.moving.proofs.back.Reads as back
@@ -23,6 +22,7 @@ use Rattle.promises.specs.Arguments.{first, second, third, fourth, fifth, sixth,
 use Rattle.promises.specs.Records.{Lent, Every}
 use Rattle.promises.specs.Proving.{RunInOrder}
 use Rattle.promises.specs.ExactCauses.{OneCause}
+use Rattle.refusals.specs.Answered.{told}
 
 -- 14 and 1 don't apply: the buffer is as long as the other form, and 1 to 4,096 whole records are lent
 pub record GivenToMove (form : Form) (s : List ℕ) (size : ℕ) : Type 0 where

@@ -6,12 +6,12 @@ use Rattle.refusals.specs.Told.{done, refused}
 use Rattle.ranges.specs.Table.{temperature_ok, gravity_ok}
 use Rattle.lookup.specs.HalfDegree.{half_degree, half_degree_signed}
 use Rattle.lookup.specs.Pair.{asked_ok}
-use Rattle.lookup.specs.Answers.{told}
 use Rattle.lookup.specs.declared.Entry.{Entry}
 use Rattle.lookup.proofs.look_up.Reads as look_up
 use Rattle.promises.specs.Arguments.{first, second, third}
 use Rattle.promises.specs.ExactCauses.{OneCause}
 use Rattle.promises.specs.PrintedTable.{NearestHalf, TableInOrder, Holds, Sought, Answerable, Answers, LookUpCause, OtherwiseSame}
+use Rattle.refusals.specs.Answered.{told}
 
 pub record LookUp : Type 0 where
   -- 'to the nearest half degree': the nearest multiple of 5 tenths and no other, of every number; in tenths there are no ties

@@ -1,6 +1,5 @@
 -- 02, 'Smart transmitters', in words: what a channel has to say where it stands, the whole number it is read as, and why it is refused.
-use Rattle.std.specs.Prelude.{◌≡◌, Bool, true, false, ℕ, ◌*◌, ℤ, pos, ◌+ℤ◌, ◌*ℤ◌, Float}
-use Rattle.std.proofs.Math.Option.{Option, none, some}
+use Rattle.std.specs.Prelude.{◌≡◌, Bool, true, false, ℕ, ◌*◌, ℤ, pos, ◌+ℤ◌, ◌*ℤ◌, Float, Option, None, Some}
 use Rattle.std.specs.Float.Ieee.Scale.{finite}
 use Rattle.ranges.specs.Table.{temperature_ok}
 use Rattle.live.specs.Exact.{numerator, denominator}
@@ -17,17 +16,17 @@ pub record Scaled : Type 0 where
 
 -- in a temperature's place: tenths of °F, ten times 9/5 · c + 32 being 320 + 18c
 abbrev pub temperature_sent : Channel → Option Scaled
-temperature_sent (Fahrenheit x) = some (record { o = 0; k = 10; x = x })
-temperature_sent (Celsius x) = some (record { o = 320; k = 18; x = x })
-temperature_sent (Pressure x) = none
-temperature_sent (Fault code) = none
+temperature_sent (Fahrenheit x) = Some (record { o = 0; k = 10; x = x })
+temperature_sent (Celsius x) = Some (record { o = 320; k = 18; x = x })
+temperature_sent (Pressure x) = None
+temperature_sent (Fault code) = None
 
 -- in a pressure's place: psi
 abbrev pub pressure_sent : Channel → Option Scaled
-pressure_sent (Fahrenheit x) = none
-pressure_sent (Celsius x) = none
-pressure_sent (Pressure x) = some (record { o = 0; k = 1; x = x })
-pressure_sent (Fault code) = none
+pressure_sent (Fahrenheit x) = None
+pressure_sent (Celsius x) = None
+pressure_sent (Pressure x) = Some (record { o = 0; k = 1; x = x })
+pressure_sent (Fault code) = None
 
 -- n is the whole number nearest to o + k·x, x the exact number in the bits: at most half a unit away, and exactly half only where n is the one
 -- further from zero
@@ -42,14 +41,14 @@ pub record RoundedAway (s : Scaled) (n : ℤ) : Type 0 where
 module _ (sent : Channel → Option Scaled) (in_range : ℤ → Bool) (channel : Channel) where
   -- 'The range is judged on that whole number'
   pub data ReadAs (n : ℤ) : Type 0 where
-    read : (s : Scaled) → sent channel ≡ some s → finite s.x ≡ true → RoundedAway s n → in_range n ≡ true → ReadAs n
+    read : (s : Scaled) → sent channel ≡ Some s → finite s.x ≡ true → RoundedAway s n → in_range n ≡ true → ReadAs n
 
   -- '34, 35, 12, 13', each where none before it applies
   pub data ChannelCause : ℕ → ℕ → Type 0 where
     fault_code : (code : ℕ) → channel ≡ Fault code → ChannelCause 34 0
-    wrong_kind : ((code : ℕ) → channel ≡ Fault code → ⊥) → sent channel ≡ none → ChannelCause 35 0
-    not_finite : (s : Scaled) → sent channel ≡ some s → finite s.x ≡ false → ChannelCause 12 0
-    out_of_range : (s : Scaled) (n : ℤ) → sent channel ≡ some s → finite s.x ≡ true → RoundedAway s n → in_range n ≡ false → ChannelCause 13 0
+    wrong_kind : ((code : ℕ) → channel ≡ Fault code → ⊥) → sent channel ≡ None → ChannelCause 35 0
+    not_finite : (s : Scaled) → sent channel ≡ Some s → finite s.x ≡ false → ChannelCause 12 0
+    out_of_range : (s : Scaled) (n : ℤ) → sent channel ≡ Some s → finite s.x ≡ true → RoundedAway s n → in_range n ≡ false → ChannelCause 13 0
 
 abbrev pub TemperatureRead : Channel → ℤ → Type 0
 TemperatureRead = ReadAs temperature_sent temperature_ok

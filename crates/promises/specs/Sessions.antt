@@ -1,15 +1,12 @@
 -- Demand 3 over the code: 'make any requests, withdrawals and takes in any order', with figures set between. A session has the book found, the calls made with what
 -- each was answered, and the book left; every call in it did what its function's contract says. There are three faces: `book` by value,
 -- `keeper` in place and the C functions.
-use Rattle.std.specs.Prelude.{◌≡◌, List, [], ◌∷◌, ℕ}
+use Rattle.std.specs.Prelude.{◌≡◌, List, [], ◌∷◌, ℕ, Result}
 use Rattle.refusals.specs.Told.{Told, done, refused}
-use Rattle.book.specs.Answers.{told_change, told_take}
 use Rattle.book.specs.Demand3.{Call, request, withdrawal, take, setting, Answer, no_request, answer_to, after, after_all, Step, step, answers_to}
 use Rattle.book.specs.declared.Book.{Book}
-use Rattle.book.specs.declared.Change.{Change}
 use Rattle.book.specs.declared.Changed.{Changed}
 use Rattle.book.specs.declared.Figures.{Figures}
-use Rattle.book.specs.declared.Handout.{Handout}
 use Rattle.book.specs.declared.Taken.{Taken}
 use Rattle.book.proofs.request.Reads as book_request
 use Rattle.book.proofs.withdraw.Reads as book_withdraw
@@ -20,6 +17,9 @@ use Rattle.api.specs.declared.books.EndakuroTaken.{EndakuroTaken}
 use Rattle.promises.specs.FlatEnding.{told_in, change_in, handout_in}
 use Rattle.promises.specs.InPlace as keeper
 use Rattle.promises.specs.InPlaceC as c
+use Rattle.refusals.specs.declared.Refusal.{Refusal}
+use Rattle.refusals.specs.Answered.{told}
+use Rattle.book.specs.declared.Handed.{Handed}
 
 -- What a face's contracts say of a call: of the book found, what it was answered and the book left.
 abbrev pub Contracts : Type 1
@@ -49,19 +49,19 @@ agreed_on book figures = (book, (figures, tt))
 
 unfoldable pub ByValue : Contracts
 ByValue (request shipper number) found answer left =
-    (r : Changed) × (book_request.Post tt (given found shipper number) r (given found shipper number)) × (answer ≡ about shipper number (told_change r.answer)) × (left ≡ r.book)
+    (r : Changed) × (book_request.Post tt (given found shipper number) r (given found shipper number)) × (answer ≡ about shipper number (told r.answer)) × (left ≡ r.book)
 ByValue (withdrawal shipper number) found answer left =
-    (r : Changed) × (book_withdraw.Post tt (given found shipper number) r (given found shipper number)) × (answer ≡ about shipper number (told_change r.answer)) × (left ≡ r.book)
-ByValue take found answer left = (r : Taken) × (book_take.Post tt (found, tt) r (found, tt)) × (answer ≡ told_take r.answer) × (left ≡ r.book)
+    (r : Changed) × (book_withdraw.Post tt (given found shipper number) r (given found shipper number)) × (answer ≡ about shipper number (told r.answer)) × (left ≡ r.book)
+ByValue take found answer left = (r : Taken) × (book_take.Post tt (found, tt) r (found, tt)) × (answer ≡ told r.answer) × (left ≡ r.book)
 ByValue (setting figures) found answer left =
-    (r : Changed) × (book_set.Post tt (agreed_on found figures) r (agreed_on found figures)) × (answer ≡ about_none (told_change r.answer)) × (left ≡ r.book)
+    (r : Changed) × (book_set.Post tt (agreed_on found figures) r (agreed_on found figures)) × (answer ≡ about_none (told r.answer)) × (left ≡ r.book)
 
 -- 'the controller keeps one book and changes it in place': what `keeper`'s clauses say (InPlace.antt).
 unfoldable pub KeptInPlace : Contracts
-KeptInPlace (request shipper number) found answer left = (r : Change) × (keeper.Requests shipper number found left r) × (answer ≡ about shipper number (told_change r))
-KeptInPlace (withdrawal shipper number) found answer left = (r : Change) × (keeper.Withdraws shipper number found left r) × (answer ≡ about shipper number (told_change r))
-KeptInPlace take found answer left = (r : Handout) × (keeper.Takes found left r) × (answer ≡ told_take r)
-KeptInPlace (setting figures) found answer left = (r : Change) × (keeper.Sets figures found left r) × (answer ≡ about_none (told_change r))
+KeptInPlace (request shipper number) found answer left = (r : Result Unit Refusal) × (keeper.Requests shipper number found left r) × (answer ≡ about shipper number (told r))
+KeptInPlace (withdrawal shipper number) found answer left = (r : Result Unit Refusal) × (keeper.Withdraws shipper number found left r) × (answer ≡ about shipper number (told r))
+KeptInPlace take found answer left = (r : Result Handed Refusal) × (keeper.Takes found left r) × (answer ≡ told r)
+KeptInPlace (setting figures) found answer left = (r : Result Unit Refusal) × (keeper.Sets figures found left r) × (answer ≡ about_none (told r))
 
 -- From C: what the C functions' clauses say (InPlaceC.antt), and the struct as a caller reads it (FlatEnding.antt).
 unfoldable pub FromC : Contracts

@@ -4,7 +4,8 @@ use Rattle.std.specs.Prelude.{◌≡◌, ℕ, ℤ, pos, neg_ℤ}
 use Rattle.std.specs.Float.{nan, binary32}
 use Rattle.std.specs.Float.Ieee.{of_bits}
 use Rattle.refusals.specs.Told.{Told, done, refused}
-use Rattle.live.specs.Live.{Values, whole_of}
+use Rattle.live.specs.Live.{whole_of}
+use Rattle.live.specs.declared.Values.{Values}
 use Rattle.live.specs.Channels.{channels_of}
 use Rattle.live.specs.declared.channels.Channel.{Channel}
 use Rattle.live.specs.declared.channels.Channel.TheVariants.{Fahrenheit, Celsius, Pressure, Fault}

@@ -6,7 +6,8 @@ use Rattle.std.specs.Float.{binary32}
 use Rattle.std.specs.Float.Ieee.{of_bits}
 use Rattle.std.specs.Float.Ieee.Scale.{finite}
 use Rattle.refusals.specs.Told.{done, refused}
-use Rattle.live.specs.Live.{Values, whole_of, told}
+use Rattle.live.specs.Live.{whole_of}
+use Rattle.live.specs.declared.Values.{Values}
 use Rattle.live.specs.declared.channels.Channel.{Channel}
 use Rattle.live.specs.declared.channels.Channel.TheVariants.{Fahrenheit, Pressure}
 use Rattle.live.proofs.convert.Reads as convert
@@ -16,6 +17,7 @@ use Rattle.api.proofs.readings.endakuro_channels.Reads as channels-in-c
 use Rattle.promises.specs.Arguments.{first, second}
 use Rattle.promises.specs.ExactCauses.{OneCause}
 use Rattle.promises.specs.Sent.{RoundedAway, TemperatureRead, TemperatureCause, PressureRead, Readable, ReadingCause}
+use Rattle.refusals.specs.Answered.{told}
 
 pub record Transmitters : Type 0 where
   -- 'from the exact number in the bits, 9/5 and 32, with one rounding to tenths of °F, halves away from zero': the one conversion o + k·x, whose o and

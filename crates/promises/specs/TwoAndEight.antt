@@ -6,7 +6,7 @@ use Rattle.octets.specs.FirstToLast.{holds_all}
 use Rattle.octets.specs.Lists.{is_one_of}
 use Rattle.book.specs.Figures.{shippers, over_shippers, line_at, waiting_of, has, default_figures}
 use Rattle.book.specs.Sound.{is_line_sound, is_sound}
-use Rattle.book.specs.Answers.{Handed}
+use Rattle.book.specs.declared.Handed.{Handed}
 use Rattle.book.specs.Calls.{request_of, entered, after_request, withdrawal_of, removed, after_withdrawal, next_turn, handed_out, take_of, after_take}
 use Rattle.book.specs.declared.Book.{Book}
 

@@ -1,14 +1,14 @@
 -- What it says of the input that judging found no fault, and what it says of the runs that a qualifying five was found.
+use Rattle.std.specs.Prelude.{Some}
 use mathlib.Core.Path.{◌≡◌, refl, sym, ap, ◌∙◌}
 use mathlib.Core.Bool.{true}
 use mathlib.Core.List.{List}
-use mathlib.Core.Option.{some}
 use Prim.Native.Nat.{ℕ, ◌+◌, ◌*◌, ◌/◌, ◌%◌, ◌<◌, ◌≤◌}
 use native.Mathlib.Omega.{arith}
 use borrow.Author.Tests.{eqb-true, le-leb}
 use lib.Dec.{eqb}
-use lib.ListN.{length, get_or}
-use Rattle.refusals.specs.Told.{done, fine, demand, demand_at}
+use lib.ListN.{length, get_or, take}
+use Rattle.refusals.specs.Told.{done, fine, demand, demand_at, unless}
 use Rattle.refusals.proofs.Laws.{demand_was, demand_at_was, or_else_fine_first, or_else_fine_next}
 use Rattle.octets.specs.FirstToLast.{scan}
 use Rattle.octets.specs.Records.{records_in, are_records}
@@ -18,7 +18,8 @@ use Rattle.ranges.proofs.Laws.{both_first, both_second, both_true, within_low, w
 use Rattle.factors.specs.Prover.{prover_ok}
 use Rattle.factors.specs.declared.Prover.{Prover}
 use Rattle.group.proofs.Groups.{first_found}
-use Rattle.group.proofs.Listed.{listed_value, listed_length}
+use Rattle.group.proofs.Listed.{listed_value, listed_length, filled_listed}
+use Rattle.group.specs.Repeatability.{first_group, nine_unless}
 use Rattle.report.specs.Record.{list_of}
 use Rattle.report.specs.Judged.{factors_ok, first_ok, job_ok, write_of}
 use Rattle.report.proofs.Laws.{write_yes}
@@ -28,7 +29,8 @@ use Rattle.run.specs.Answers.{record_fault, figures_fault}
 use Rattle.run.specs.declared.Form.{Form}
 use Rattle.run.specs.declared.Form.TheVariants.{Short, Long}
 use Rattle.proving.specs.Judging.{runs_in, size_ok, settings_fault, lent_fault, run_fault, input_fault}
-use Rattle.proving.specs.Job.{HoldsAll, factor_at, factors_of, first_five, found_of, five_at, report_at}
+use Rattle.proving.specs.Job.{HoldsAll, factor_at, factors_of, first_five, found_of, five_at, five_from, five_of, report_at}
+use Rattle.proving.specs.declared.Five.{Five}
 use Rattle.proving.proofs.Laws.{reached}
 
 pub record Settings (prover : Prover) (k : ℕ) (form : Form) (size : ℕ) : Type 0 where
@@ -53,6 +55,10 @@ settings prover k limit form size clear =
       k_fits = demand_was (k_factor_ok k) 4 (or_else_fine_first (demand (k_factor_ok k) 4) _ last);
     }
 
+pub few_runs : (prover : Prover) (k limit : ℕ) (form : Form) (s : List ℕ) → settings_fault prover k limit form (length s) ≡ fine → runs_in form s ≤ 20
+unfolding records_in
+few_runs prover k limit form s clear = (settings prover k limit form (length s) clear).most
+
 -- no record is at fault: every field of each is in range
 pub fields_fit : (form : Form) (s : List ℕ) (n : ℕ) → scan (lent_fault form s) n 0 ≡ fine → (i : ℕ) → i < n → run_ok (run_at form s i) ≡ true
 unfolding record_fault
@@ -69,7 +75,7 @@ factors_fit prover k form s n clear i h =
 pub record FoundAt (prover : Prover) (k limit : ℕ) (form : Form) (s : List ℕ) (at : ℕ) : Type 0 where
   pub settled : Settings prover k form (length s)
   pub judged : input_fault prover k limit form s ≡ fine
-  pub first : first_five prover k limit form s ≡ some at
+  pub first : first_five prover k limit form s ≡ Some at
   pub inside : at + 5 ≤ length s / size_of form
   pub fit : (i : ℕ) → i < runs_in form s → run_factor_ok (factor_at prover k form s i) ≡ true
 
@@ -77,7 +83,7 @@ pub found_at : (prover : Prover) (k limit : ℕ) (form : Form) (s : List ℕ) {a
 unfolding found_of input_fault first_five factors_of records_in
 found_at prover k limit form s is =
     let r = reached (input_fault prover k limit form s) (first_five prover k limit form s) (λ at. at) is in
-    let five = r.first ∙ ap some r.gives in
+    let five = r.first ∙ ap Some r.gives in
     let runs = or_else_fine_next (scan (lent_fault form s) (runs_in form s) 0) _ (or_else_fine_next (settings_fault prover k limit form (length s)) _ r.clear) in
     let found = first_found limit 5 (factors_of prover k form s) five in
     record {
@@ -86,6 +92,34 @@ found_at prover k limit form s is =
       first = five;
       inside = omega (arith, found.within, listed_length (factor_at prover k form s) (runs_in form s) 0);
       fit = factors_fit prover k form s (runs_in form s) runs;
+    }
+
+-- an array that holds the runs' factors begins with all of them, and the place sought in them is the one that is found
+module _ (prover : Prover) (k limit : ℕ) (form : Form) (s values : List ℕ) (clear : input_fault prover k limit form s ≡ fine) where
+  pub room : length values ≡ 20 → runs_in form s ≤ length values
+  unfolding input_fault
+  room size = omega (arith, few_runs prover k limit form s (or_else_fine_first (settings_fault prover k limit form (length s)) _ clear))
+
+  pub sought : length values ≡ 20 → HoldsAll values prover k form s → nine_unless (first_group limit 5 (take (runs_in form s) values)) (λ at. at) ≡ found_of prover k limit form s
+  unfolding found_of first_five factors_of
+  sought size each = rw (clear, filled_listed (factor_at prover k form s) values (runs_in form s) (room size) each)
+
+-- a five that is found: its place, and its factors
+pub record Proved (prover : Prover) (k limit : ℕ) (form : Form) (s : List ℕ) (five : Five) : Type 0 where
+  pub place : found_of prover k limit form s ≡ done five.at
+  pub found : FoundAt prover k limit form s five.at
+  pub factors : five.factors ≡ five_at (factors_of prover k form s) five.at
+
+pub proved : (prover : Prover) (k limit : ℕ) (form : Form) (s : List ℕ) {five : Five} → five_of prover k limit form s ≡ done five → Proved prover k limit form s five
+unfolding five_from five_of found_of
+proved prover k limit form s {five} is =
+    let r = reached (input_fault prover k limit form s) (first_five prover k limit form s) (five_from prover k form s) is in
+    let at : r.place ≡ five.at = ap (λ (f : Five). f.at) r.gives in
+    let here : found_of prover k limit form s ≡ done five.at = (λ i. unless (r.clear i) (nine_unless (r.first i) (λ at. at))) ∙ ap done at in
+    record {
+      place = here;
+      found = found_at prover k limit form s here;
+      factors = sym (ap (λ (f : Five). f.factors) r.gives) ∙ ap (five_at (factors_of prover k form s)) at;
     }
 
 -- the five records lie within what is lent

@@ -1,8 +1,8 @@
 -- What follows from a five that is found, or that is not; and a run's answer, once its settings and fields are judged.
+use Rattle.std.specs.Prelude.{Option, None, Some}
 use mathlib.Core.Path.{◌≡◌, refl, ap, ◌∙◌}
 use mathlib.Core.Bool.{true}
 use mathlib.Core.List.{List}
-use mathlib.Core.Option.{Option, none, some}
 use Prim.Native.Nat.{ℕ, ◌+◌}
 use Rattle.refusals.specs.Told.{done, refused, Fault, fine, fault, unless, judged}
 use Rattle.refusals.proofs.Laws.{done_one, refused_number, refused_record, refused_not_done, demand_holds, demand_at_holds, or_else_next}
@@ -21,18 +21,18 @@ module _ {A : Type 0} where
   pub record Reached (f : Fault) (o : Option ℕ) (follows : ℕ → A) (x : A) : Type 0 where
     pub clear : f ≡ fine
     pub place : ℕ
-    pub first : o ≡ some place
+    pub first : o ≡ Some place
     pub gives : follows place ≡ x
 
   pub reached : (f : Fault) (o : Option ℕ) (follows : ℕ → A) {x : A} → unless f (nine_unless o follows) ≡ done x → Reached f o follows x
-  reached fine none follows is = absurd (refused_not_done is)
-  reached fine (some at) follows is = record { clear = refl; place = at; first = refl; gives = done_one is }
+  reached fine None follows is = absurd (refused_not_done is)
+  reached fine (Some at) follows is = record { clear = refl; place = at; first = refl; gives = done_one is }
   reached (fault number at) o follows is = absurd (refused_not_done is)
 
 -- a five that is not found is refused alike, whatever was to follow from it
 pub refused_alike : {A B : Type 0} (f : Fault) (o : Option ℕ) (follows : ℕ → A) (also : ℕ → B) {number at : ℕ} → unless f (nine_unless o follows) ≡ refused number at → unless f (nine_unless o also) ≡ refused number at
-refused_alike fine none follows also is = λ i. refused (refused_number is i) (refused_record is i)
-refused_alike fine (some at) follows also is = cc
+refused_alike fine None follows also is = λ i. refused (refused_number is i) (refused_record is i)
+refused_alike fine (Some at) follows also is = cc
 refused_alike (fault number at) o follows also is = λ i. refused (refused_number is i) (refused_record is i)
 
 -- a run whose settings, K and fields were judged answers with its own 7 or 8, or with its figures

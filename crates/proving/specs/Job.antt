@@ -1,6 +1,5 @@
 -- 01, 'Proving, by pipe prover': 'The first qualifying five decide. The job's factor is their mean, rounded.'
-use Rattle.std.specs.Prelude.{not, List, [], ◌≡◌, ℕ, ◌+◌, ◌*◌, ◌<◌, eqb, get_or, take, drop}
-use Rattle.std.proofs.Math.Option.{Option}
+use Rattle.std.specs.Prelude.{not, List, [], ◌≡◌, ℕ, ◌+◌, ◌*◌, ◌<◌, eqb, get_or, take, drop, Option}
 use Rattle.refusals.specs.Told.{Told, done, refused, demand, or_else, unless}
 use Rattle.factors.specs.declared.Prover.{Prover}
 use Rattle.group.specs.Listed.{listed}
@@ -11,6 +10,7 @@ use Rattle.report.specs.declared.Report.{Report}
 use Rattle.run.specs.Record.{size_of, run_at}
 use Rattle.run.specs.Figures.{figures_of}
 use Rattle.run.specs.declared.Form.{Form}
+use Rattle.proving.specs.declared.Five.{Five}
 use Rattle.proving.specs.Judging.{runs_in, input_fault}
 
 -- the factor of the run at place i, counted from 0
@@ -40,6 +40,13 @@ found_of prover k limit form s = unless (input_fault prover k limit form s) (nin
 -- five consecutive values, from a place on
 unfoldable pub five_at : List ℕ → ℕ → Factors
 five_at xs at = record { one = get_or xs at 0; two = get_or xs (at + 1) 0; three = get_or xs (at + 2) 0; four = get_or xs (at + 3) 0; five = get_or xs (at + 4) 0 }
+
+-- the five that prove the job: where they begin, and their factors
+unfoldable pub five_from : Prover → ℕ → Form → List ℕ → ℕ → Five
+five_from prover k form s at = record { at = at; factors = five_at (factors_of prover k form s) at }
+
+unfoldable pub five_of : Prover → ℕ → ℕ → Form → List ℕ → Told Five
+five_of prover k limit form s = unless (input_fault prover k limit form s) (nine_unless (first_five prover k limit form s) (five_from prover k form s))
 
 -- the report of a job whose five begin at a place: runs and first run are counted from 1
 unfoldable pub report_at : ℕ → Prover → ℕ → Form → List ℕ → ℕ → Report

@@ -1,4 +1,5 @@
 -- The table loses nothing: a number with its record names one case. And the laws of judging in order.
+use Rattle.std.specs.Prelude.{Result, Ok, Err}
 use mathlib.Core.Path.{◌≡◌, refl, sym, ap, ◌∙◌}
 use mathlib.Core.Bool.{Bool, true, false, cond}
 use mathlib.Core.List.{List, [], ◌∷◌}
@@ -6,12 +7,10 @@ use Prim.Native.Nat.{ℕ}
 use native.Mathlib.Omega.{arith}
 use lib.Dec.{eqb}
 use Rattle.refusals.specs.Table.{number_of, record_of, cases}
-use Rattle.refusals.specs.Verdict.{fault_of}
-use Rattle.refusals.specs.declared.Verdict.{Verdict}
-use Rattle.refusals.specs.declared.Verdict.TheVariants.{Fine, Refused}
 use Rattle.refusals.specs.Told.{Told, done, refused, Fault, fine, fault, demand, demand_at, or_else, unless, judged}
 use Rattle.refusals.specs.declared.Refusal.{Refusal}
 use Rattle.refusals.specs.declared.Refusal.TheVariants.{Records, UnnamedByte, ProverSetting, KFactorOrLimit, RecordField, PassRule, IndicatedVolume, RunFactor, NoGroup, TicketField, ClosingBelowOpening, ReadingNotFinite, ReadingRange, ReportBuffer, NotReport, BookNotSound, UnknownShipper, NumberZero, AlreadyWaiting, CeilingReached, CommonsFull, NotWaiting, NothingToTake, BookNotEmpty, FiguresOutside, TableRecord, NoSuchPair, FaultCode, WrongKind, NotWhole}
+use Rattle.refusals.specs.Answered.{told, fault_of}
 
 -- the case that a number and a record name: the first of the cases that has the number
 named : ℕ → List Refusal → Refusal
@@ -65,12 +64,12 @@ not-zero r is =
     let last : number_of r ≡ 36 = ap number_of (sym (case_back r) ∙ ap (λ (n : ℕ). case_of n (record_of r)) is) in
     omega arith
 
--- two verdicts with the same fault are the same
-pub verdict_one : (a b : Verdict) → fault_of a ≡ fault_of b → a ≡ b
-verdict_one Fine Fine is = refl
-verdict_one Fine (Refused s) is = cc
-verdict_one (Refused r) Fine is = cc
-verdict_one (Refused r) (Refused s) is = let number : number_of r ≡ number_of s = cc in let at : record_of r ≡ record_of s = cc in ap Refused (refusal_one r s number at)
+-- two judgings with the same fault are the same
+pub verdict_one : (a b : Result Unit Refusal) → fault_of a ≡ fault_of b → a ≡ b
+verdict_one (Ok x) (Ok y) is = refl
+verdict_one (Ok x) (Err s) is = cc
+verdict_one (Err r) (Ok y) is = cc
+verdict_one (Err r) (Err s) is = let number : number_of r ≡ number_of s = cc in let at : record_of r ≡ record_of s = cc in ap Err (refusal_one r s number at)
 
 -- what is told holds its result, or its number and record, and not both
 pub done_one : {A : Type 0} {x y : A} → ◌≡◌ {A = Told A} (done x) (done y) → x ≡ y
@@ -81,6 +80,13 @@ refused_number p = cc
 
 pub refused_record : {A : Type 0} {n m a b : ℕ} → ◌≡◌ {A = Told A} (refused n a) (refused m b) → a ≡ b
 refused_record p = cc
+
+-- two answers that tell the same are the same
+pub told_one : {A : Type 0} (a b : Result A Refusal) → told a ≡ told b → a ≡ b
+told_one (Ok x) (Ok y) is = ap Ok (done_one is)
+told_one (Ok x) (Err s) is = cc
+told_one (Err r) (Ok y) is = cc
+told_one {A} (Err r) (Err s) is = ap Err (refusal_one r s (refused_number {A = A} is) (refused_record {A = A} is))
 
 -- a result comes only of no fault
 pub judged_fine : {A : Type 0} {f : Fault} (x : A) → f ≡ fine → judged f x ≡ done x

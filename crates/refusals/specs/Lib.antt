@@ -1,3 +1,3 @@
+pub mod Answered
 pub mod Table
 pub mod Told
-pub mod Verdict

@@ -5,7 +5,7 @@
 ghost use Rattle.std.specs.Prelude.{◌≡◌};
 ghost use Rattle.refusals.specs.Table.{number_of, record_of, given_back};
 ghost use Rattle.refusals.specs.Told.{demand_at, or_else};
-ghost use Rattle.refusals.specs.Verdict.{fault_of};
+ghost use Rattle.refusals.specs.Answered.{fault_of};
 
 #[derive(Clone, Copy)]
 pub enum Refusal {
@@ -71,13 +71,6 @@ pub enum Refusal {
     NotWhole(u16),
 }
 
-// What judging finds: nothing, or why the caller is refused.
-#[derive(Clone, Copy)]
-pub enum Verdict {
-    Fine,
-    Refused(Refusal),
-}
-
 // What the caller is given back: the table's number, and the record at fault, from 1, or 0 where
 // the table carries none.
 #[derive(Clone, Copy)]
@@ -86,60 +79,55 @@ pub struct GivenBack {
     pub at: u16,
 }
 
+// A function of this name in place of a `From`: the table is promised of it by name (docs/CONTRACTS.md).
 pub fn give_back(refusal: Refusal) -> GivenBack
     ensures { result ≡ given_back refusal }
 {
-    match refusal {
-        Refusal::Records => GivenBack { number: 1, at: 0 },
-        Refusal::UnnamedByte(at) => GivenBack { number: 2, at },
-        Refusal::ProverSetting => GivenBack { number: 3, at: 0 },
-        Refusal::KFactorOrLimit => GivenBack { number: 4, at: 0 },
-        Refusal::RecordField(at) => GivenBack { number: 5, at },
-        Refusal::PassRule(at) => GivenBack { number: 6, at },
-        Refusal::IndicatedVolume(at) => GivenBack { number: 7, at },
-        Refusal::RunFactor(at) => GivenBack { number: 8, at },
-        Refusal::NoGroup => GivenBack { number: 9, at: 0 },
-        Refusal::TicketField => GivenBack { number: 10, at: 0 },
-        Refusal::ClosingBelowOpening => GivenBack { number: 11, at: 0 },
-        Refusal::ReadingNotFinite => GivenBack { number: 12, at: 0 },
-        Refusal::ReadingRange => GivenBack { number: 13, at: 0 },
-        Refusal::ReportBuffer => GivenBack { number: 14, at: 0 },
-        Refusal::NotReport => GivenBack { number: 15, at: 0 },
-        Refusal::BookNotSound => GivenBack { number: 20, at: 0 },
-        Refusal::UnknownShipper => GivenBack { number: 21, at: 0 },
-        Refusal::NumberZero => GivenBack { number: 22, at: 0 },
-        Refusal::AlreadyWaiting => GivenBack { number: 23, at: 0 },
-        Refusal::CeilingReached => GivenBack { number: 24, at: 0 },
-        Refusal::CommonsFull => GivenBack { number: 25, at: 0 },
-        Refusal::NotWaiting => GivenBack { number: 26, at: 0 },
-        Refusal::NothingToTake => GivenBack { number: 27, at: 0 },
-        Refusal::BookNotEmpty => GivenBack { number: 30, at: 0 },
-        Refusal::FiguresOutside => GivenBack { number: 31, at: 0 },
-        Refusal::TableRecord(at) => GivenBack { number: 32, at },
-        Refusal::NoSuchPair => GivenBack { number: 33, at: 0 },
-        Refusal::FaultCode => GivenBack { number: 34, at: 0 },
-        Refusal::WrongKind => GivenBack { number: 35, at: 0 },
-        Refusal::NotWhole(at) => GivenBack { number: 36, at },
-    }
+    let (number, at) = match refusal {
+        Refusal::Records => (1, 0),
+        Refusal::UnnamedByte(at) => (2, at),
+        Refusal::ProverSetting => (3, 0),
+        Refusal::KFactorOrLimit => (4, 0),
+        Refusal::RecordField(at) => (5, at),
+        Refusal::PassRule(at) => (6, at),
+        Refusal::IndicatedVolume(at) => (7, at),
+        Refusal::RunFactor(at) => (8, at),
+        Refusal::NoGroup => (9, 0),
+        Refusal::TicketField => (10, 0),
+        Refusal::ClosingBelowOpening => (11, 0),
+        Refusal::ReadingNotFinite => (12, 0),
+        Refusal::ReadingRange => (13, 0),
+        Refusal::ReportBuffer => (14, 0),
+        Refusal::NotReport => (15, 0),
+        Refusal::BookNotSound => (20, 0),
+        Refusal::UnknownShipper => (21, 0),
+        Refusal::NumberZero => (22, 0),
+        Refusal::AlreadyWaiting => (23, 0),
+        Refusal::CeilingReached => (24, 0),
+        Refusal::CommonsFull => (25, 0),
+        Refusal::NotWaiting => (26, 0),
+        Refusal::NothingToTake => (27, 0),
+        Refusal::BookNotEmpty => (30, 0),
+        Refusal::FiguresOutside => (31, 0),
+        Refusal::TableRecord(at) => (32, at),
+        Refusal::NoSuchPair => (33, 0),
+        Refusal::FaultCode => (34, 0),
+        Refusal::WrongKind => (35, 0),
+        Refusal::NotWhole(at) => (36, at),
+    };
+    GivenBack { number, at }
 }
 
 // The refusal, unless what the paper demands holds.
-pub fn demand(holds: bool, refusal: Refusal) -> Verdict
+pub fn demand(holds: bool, refusal: Refusal) -> Result<(), Refusal>
     ensures { fault_of result ≡ demand_at holds (number_of refusal) (record_of refusal) }
 {
-    if holds {
-        Verdict::Fine
-    } else {
-        Verdict::Refused(refusal)
-    }
+    if holds { Ok(()) } else { Err(refusal) }
 }
 
 // The paper's order: the first refusal found is the one given.
-pub fn or_else(first: Verdict, next: Verdict) -> Verdict
+pub fn or_else(first: Result<(), Refusal>, next: Result<(), Refusal>) -> Result<(), Refusal>
     ensures { fault_of result ≡ or_else (fault_of first) (fault_of next) }
 {
-    match first {
-        Verdict::Fine => next,
-        Verdict::Refused(_) => first,
-    }
+    first.and(next)
 }

@@ -1,27 +1,20 @@
 -- When the writer and the reader accept, exactly; and that an answer told is the answer.
 use mathlib.Core.Path.{◌≡◌, refl, ap}
-use mathlib.Core.Bool.{Bool, true, not}
-use mathlib.Core.List.{List}
+use mathlib.Core.Bool.{Bool, true, not, ◌&&◌}
+use Rattle.std.specs.List.{list_all}
+use Rattle.ranges.specs.Table.{run_factor_ok}
+use mathlib.Core.List.{List, [], ◌∷◌}
 use Prim.Native.Nat.{ℕ}
 use borrow.Author.Tests.{eq-eqb, ne_eqb, eqb-true}
 use lib.Dec.{eqb}
 use lib.ListN.{length}
 use Rattle.octets.specs.Octets.{bytes_of}
-use Rattle.refusals.proofs.Laws.{refusal_one, done_one, refused_number, refused_record, judged_was, judged_done, demand_was, or_else_fine_first, or_else_fine_next}
+use Rattle.refusals.proofs.Laws.{judged_was, judged_done, demand_was, or_else_fine_first, or_else_fine_next}
 use Rattle.refusals.specs.Told.{done, demand, or_else}
-use Rattle.report.specs.Judged.{job_ok, is_report, report_of, write_of, read_of, told}
+use Rattle.report.specs.Judged.{factors_ok, job_ok, is_report, report_of, write_of, read_of}
 use Rattle.report.specs.Record.{list_of, fields_of, bytes_of_report}
-use Rattle.report.specs.declared.Answer.{Answer}
-use Rattle.report.specs.declared.Answer.TheVariants.{Fields, Refused}
 use Rattle.report.specs.declared.Factors.{Factors}
 use Rattle.report.specs.declared.Report.{Report}
-
--- two answers that tell the same are the same
-pub told_one : (a b : Answer) → told a ≡ told b → a ≡ b
-told_one (Fields r) (Fields s) is = ap Fields (done_one is)
-told_one (Fields r) (Refused why) is = cc
-told_one (Refused why) (Fields r) is = cc
-told_one (Refused why) (Refused y) is = ap Refused (refusal_one why y (refused_number is) (refused_record is))
 
 pub length_report : (r : Report) → length (bytes_of_report r) ≡ 32
 unfolding bytes_of bytes_of_report
@@ -57,3 +50,9 @@ module _ (size number runs first : ℕ) (factors : Factors) where
       let rest = or_else_fine_next (demand same 14) _ clear in
       let sized = eqb-true size 32 (demand_was same 14 (or_else_fine_first (demand same 14) _ clear)) in
       (sized, demand_was some 22 (or_else_fine_first (demand some 22) _ rest), demand_was ok 15 (or_else_fine_next (demand some 22) _ rest), judged_done faults (report_of number runs first factors) is)
+
+-- each factor judged alone
+pub all_in_range : (xs : List ℕ) → list_all run_factor_ok xs ≡ factors_ok xs
+unfolding factors_ok
+all_in_range [] = refl
+all_in_range (x ∷ xs) = ap (λ (rest : Bool). run_factor_ok x && rest) (all_in_range xs)

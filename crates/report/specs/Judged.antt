@@ -2,12 +2,9 @@
 use Rattle.std.specs.Prelude.{Bool, true, ◌&&◌, not, List, [], ◌∷◌, ℕ, ◌+◌, leb, eqb, length}
 use Rattle.octets.specs.Octets.{zero_between}
 use Rattle.ranges.specs.Table.{run_factor_ok, runs_ok}
-use Rattle.refusals.specs.Table.{number_of, record_of}
-use Rattle.refusals.specs.Told.{Told, done, refused, demand, or_else, judged}
+use Rattle.refusals.specs.Told.{Told, demand, or_else, judged}
 use Rattle.group.specs.Mean.{mean_of}
 use Rattle.report.specs.Record.{list_of, fields_of}
-use Rattle.report.specs.declared.Answer.{Answer}
-use Rattle.report.specs.declared.Answer.TheVariants.{Fields, Refused}
 use Rattle.report.specs.declared.Factors.{Factors}
 use Rattle.report.specs.declared.Report.{Report}
 
@@ -49,8 +46,3 @@ write_of size number runs first factors =
 -- 'a report read: 14, 15'
 unfoldable pub read_of : List ℕ → Told Report
 read_of s = judged (or_else (demand (eqb (length s) 32) 14) (demand (is_report s) 15)) (fields_of s)
-
--- what the answer tells: the report's fields, or the number and record given back
-abbrev pub told : Answer → Told Report
-told (Fields r) = done r
-told (Refused why) = refused (number_of why) (record_of why)

@@ -5,11 +5,12 @@ ghost use Rattle.std.specs.Prelude.{◌≡◌, length};
 ghost use Rattle.refusals.specs.Told.{left_by};
 ghost use Rattle.group.specs.Mean.{mean_of};
 ghost use Rattle.report.specs.Record.{list_of, fields_of, bytes_of_report};
-ghost use Rattle.report.specs.Judged.{factors_ok, job_ok, report_ok, write_of, read_of, told};
+ghost use Rattle.report.specs.Judged.{factors_ok, job_ok, report_ok, write_of, read_of};
+ghost use Rattle.refusals.specs.Answered.{told};
 
-use refusals::{Refusal, Verdict};
+use refusals::Refusal;
 
-// Five consecutive run factors, each in 0.0001.
+// Five consecutive run factors, each in 0.0001: five fields and no array, since the theorems of promises name them.
 #[derive(Clone, Copy)]
 pub struct Factors {
     pub one: u16,
@@ -32,58 +33,42 @@ pub struct Report {
     pub factors: Factors,
 }
 
-// A report as it was written or read, or why there is none.
-#[derive(Clone, Copy)]
-pub enum Answer {
-    Fields(Report),
-    Refused(Refusal),
-}
-
 // Writes the report of a job into the lent buffer: its factor is the mean of the five, rounded.
-pub fn write(number: u32, runs: u8, first: u8, factors: Factors, buffer: &mut [u8]) -> Answer
+pub fn write(
+    number: u32,
+    runs: u8,
+    first: u8,
+    factors: Factors,
+    buffer: &mut [u8],
+) -> Result<Report, Refusal>
     ensures answer { told result ≡ write_of (length buffer.old) number runs first factors }
     ensures left { buffer.new ≡ left_by (write_of (length buffer.old) number runs first factors) bytes_of_report buffer.old }
 {
-    let verdict = refusals::or_else(
-        refusals::demand(buffer.len() == 32, Refusal::ReportBuffer),
-        refusals::or_else(
-            refusals::demand(number != 0, Refusal::NumberZero),
-            refusals::demand(is_job(runs, first, factors), Refusal::NotReport),
-        ),
-    );
-    match verdict {
-        Verdict::Fine => {
-            let report = Report {
-                number,
-                factor: mean(factors),
-                first,
-                runs,
-                factors,
-            };
-            let bytes = lay_out(report);
-            octets::write_at(&bytes, buffer, 0);
-            Answer::Fields(report)
-        }
-        Verdict::Refused(refusal) => Answer::Refused(refusal),
-    }
+    refusals::demand(buffer.len() == 32, Refusal::ReportBuffer)?;
+    refusals::demand(number != 0, Refusal::NumberZero)?;
+    refusals::demand(is_job(runs, first, factors), Refusal::NotReport)?;
+    let report = Report {
+        number,
+        factor: mean(factors),
+        first,
+        runs,
+        factors,
+    };
+    buffer.copy_from_slice(&lay_out(report));
+    Ok(report)
 }
 
 // Reads a report back from its bytes.
-pub fn read(bytes: &[u8]) -> Answer
+pub fn read(bytes: &[u8]) -> Result<Report, Refusal>
     ensures { told result ≡ read_of bytes.now }
 {
+    refusals::demand(bytes.len() == 32, Refusal::ReportBuffer)?;
     let report = decode(bytes);
-    let verdict = refusals::or_else(
-        refusals::demand(bytes.len() == 32, Refusal::ReportBuffer),
-        refusals::demand(
-            is_report(report) & octets::are_zero(bytes, 18, 32),
-            Refusal::NotReport,
-        ),
-    );
-    match verdict {
-        Verdict::Fine => Answer::Fields(report),
-        Verdict::Refused(refusal) => Answer::Refused(refusal),
-    }
+    refusals::demand(
+        is_report(report) & octets::are_zero(bytes, 18, 32),
+        Refusal::NotReport,
+    )?;
+    Ok(report)
 }
 
 // 01, 'Records': where each field stands.
@@ -106,7 +91,7 @@ fn decode(s: &[u8]) -> Report
     }
 }
 
-// 01, 'Records': the same places; bytes not named are zero.
+// 01, 'Records': the same places; bytes not named are zero. Copying each number to its place would be no plainer: here each byte is seen.
 fn lay_out(r: Report) -> [u8; 32]
     ensures { result ≡ bytes_of_report r }
 {
@@ -125,27 +110,30 @@ fn lay_out(r: Report) -> [u8; 32]
     ]
 }
 
-// The mean of the five, rounded.
-fn mean(f: Factors) -> u16
-    ensures { result ≡ mean_of (list_of f) }
+// The five in their order.
+fn list(f: Factors) -> [u64; 5]
+    ensures { result ≡ list_of f }
 {
-    let five = [
+    [
         f.one as u64,
         f.two as u64,
         f.three as u64,
         f.four as u64,
         f.five as u64,
-    ];
-    group::mean(&five) as u16
+    ]
+}
+
+// The mean of the five, rounded.
+fn mean(f: Factors) -> u16
+    ensures { result ≡ mean_of (list_of f) }
+{
+    group::mean(&list(f)) as u16
 }
 
 fn are_factors(f: Factors) -> bool
     ensures { result ≡ factors_ok (list_of f) }
 {
-    ranges::is_run_factor(f.one as u64)
-        & (ranges::is_run_factor(f.two as u64)
-            & (ranges::is_run_factor(f.three as u64)
-                & (ranges::is_run_factor(f.four as u64) & ranges::is_run_factor(f.five as u64))))
+    list(f).iter().all(|&factor| ranges::is_run_factor(factor))
 }
 
 // What the writer and the reader both judge: runs, first run and factors.

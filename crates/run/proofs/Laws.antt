@@ -1,12 +1,15 @@
 -- What a run's ranges say, and the magnitudes of its figures.
-use mathlib.Core.Path.{◌≡◌, ap}
+use Rattle.std.specs.Prelude.{Result, Ok, Err}
+use Rattle.std.specs.Result.{result_unwrap_or}
+use Rattle.exact.specs.Quotient.{value_or_zero}
+use mathlib.Core.Path.{◌≡◌, refl}
 use mathlib.Core.Bool.{true, ◌&&◌}
 use mathlib.Core.List.{[], ◌∷◌}
 use Prim.Native.Nat.{ℕ, ◌≤◌}
 use native.Mathlib.Nat.{mul-le-mul}
 use native.Mathlib.Omega.{arith}
 use Rattle.refusals.specs.Told.{fine, demand}
-use Rattle.refusals.proofs.Laws.{refusal_one, done_one, refused_number, refused_record, demand_was, demand_at_was, or_else_fine_first, or_else_fine_next}
+use Rattle.refusals.proofs.Laws.{demand_was, demand_at_was, or_else_fine_first, or_else_fine_next}
 use Rattle.ranges.specs.Table.{temperature_ok, ctl_ok, pulses_ok, k_factor_ok, volume_ok}
 use Rattle.ranges.proofs.Laws.{both_first, both_second, within_high}
 use Rattle.factors.specs.Metal.{metal_ok}
@@ -16,10 +19,7 @@ use Rattle.factors.specs.Rounded.{combined_at}
 use Rattle.factors.specs.declared.Prover.{Prover}
 use Rattle.factors.proofs.Values.{combined_small}
 use Rattle.run.specs.Record.{side_ok, run_ok}
-use Rattle.run.specs.Answers.{given_fault, told}
-use Rattle.run.specs.declared.Figures.{Figures as Sheet}
-use Rattle.run.specs.declared.Worked.{Worked}
-use Rattle.run.specs.declared.Worked.TheVariants.{Figures, Refused}
+use Rattle.run.specs.Answers.{given_fault}
 use Rattle.run.specs.declared.Run.{Run}
 use Rattle.run.specs.declared.Side.{Side}
 
@@ -84,9 +84,7 @@ four_small a b c d ha hb hc hd = combined_small 4 (a ∷ b ∷ c ∷ d ∷ []) 1
 pub two_small : (a b : ℕ) → a ≤ 20000 → b ≤ 20000 → combined_at 4 (a ∷ b ∷ []) ≤ 160000
 two_small a b ha hb = omega (arith, combined_small 4 (a ∷ b ∷ []) 4 (omega arith) (mul-le-mul ha (mul-le-mul {m₂ = 1} hb (omega arith))))
 
--- `told` loses nothing
-pub told_one : (a b : Worked) → told a ≡ told b → a ≡ b
-told_one (Figures x) (Figures y) is = ap Figures (done_one is)
-told_one (Figures x) (Refused refusal) is = cc
-told_one (Refused refusal) (Figures x) is = cc
-told_one (Refused refusal) (Refused other) is = ap Refused (refusal_one refusal other (refused_number {A = Sheet} is) (refused_record {A = Sheet} is))
+-- the value, and 0 where there is none
+pub unwrapped : {E : Type 0} (found : Result ℕ E) → result_unwrap_or found 0 ≡ value_or_zero found
+unwrapped (Ok x) = refl
+unwrapped (Err why) = refl

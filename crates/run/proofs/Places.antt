@@ -2,13 +2,13 @@
 use mathlib.Core.Path.{◌≡◌, refl, sym, ap, ◌∙◌}
 use mathlib.Core.Bool.{true}
 use mathlib.Core.List.{List}
-use mathlib.Core.Logic.{⊎_elim}
-use Prim.Native.Nat.{ℕ, ◌+◌, ◌*◌, ◌≤◌}
+use mathlib.Core.Logic.{◌⊎◌, inl, inr, ⊎_elim, by_cases}
+use Prim.Native.Nat.{ℕ, ◌+◌, ◌*◌, ◌≤◌, min}
+use native.Mathlib.Decide.{dec_lt}
 use native.Mathlib.Omega.{arith}
 use lib.ListN.{length, get_or-eq_default}
 use Rattle.octets.specs.Octets.{word_at, long_at, quad_at, signed_at, signed_of, zero_between}
 use Rattle.octets.proofs.Laws.{number_past, zero_all}
-use Rattle.run.specs.Places.{BeginsAt}
 use Rattle.run.specs.Record.{size_of, shift_of, pulses_at, fields_from, run_from, unnamed_ok}
 use Rattle.run.specs.declared.Form.{Form}
 use Rattle.run.specs.declared.Form.TheVariants.{Short, Long}
@@ -49,7 +49,11 @@ module _ (s : List ℕ) {at : ℕ} (h : length s ≤ at) where
   unnamed_past : (o n m : ℕ) → zero_between s (length s + o + n) (length s + m) ≡ zero_between s (at + o + n) (at + m)
   unnamed_past o n m = none_left (length s + o + n) (length s + m) (omega arith) ∙ sym (none_left (at + o + n) (at + m) (omega arith))
 
-module _ (form : Form) (s : List ℕ) (i : ℕ) {at : ℕ} (begins : BeginsAt form s i at) where
+module _ (form : Form) (s : List ℕ) (i : ℕ) {at : ℕ} (is : at ≡ min (size_of form * i) (length s)) where
+  -- the record at place i begins at a byte, or past the end, which then stands for it
+  begins : (at ≡ size_of form * i) ⊎ ((at ≡ length s) × (length s ≤ size_of form * i))
+  begins = by_cases (dec_lt (length s) (size_of form * i)) (λ past. inr (omega arith, omega arith)) (λ within. inl (omega arith))
+
   -- the record is read the same
   pub begun : run_from form s at ≡ run_from form s (size_of form * i)
   begun =

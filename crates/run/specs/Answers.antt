@@ -1,7 +1,6 @@
 -- 01, 'Numbers given back', for one run: 3, 4, 5, then 7 and 8 on the rounded figures.
 use Rattle.std.specs.Prelude.{List, ℕ, eqb, length}
-use Rattle.refusals.specs.Table.{number_of, record_of}
-use Rattle.refusals.specs.Told.{Told, done, refused, Fault, demand, demand_at, or_else, unless, judged}
+use Rattle.refusals.specs.Told.{Told, Fault, demand, demand_at, or_else, unless, judged}
 use Rattle.ranges.specs.Table.{k_factor_ok, volume_ok, run_factor_ok}
 use Rattle.factors.specs.Prover.{prover_ok}
 use Rattle.factors.specs.declared.Prover.{Prover}
@@ -10,8 +9,6 @@ use Rattle.run.specs.Figures.{figures_of}
 use Rattle.run.specs.declared.Form.{Form}
 use Rattle.run.specs.declared.Run.{Run}
 use Rattle.run.specs.declared.Figures.{Figures as Sheet}
-use Rattle.run.specs.declared.Worked.{Worked}
-use Rattle.run.specs.declared.Worked.TheVariants.{Figures, Refused}
 
 -- 5, then 2, of the record at place i, counted from 0; `at` is its own number
 unfoldable pub record_fault : Form → List ℕ → ℕ → ℕ → Fault
@@ -41,8 +38,3 @@ shown_of prover k form s =
     (or_else (given_fault prover k (run_at form s 0) 1)
     (demand_at (unnamed_ok form s 0) 2 1)))
     (figures_told prover k (run_at form s 0) 1)
-
--- what the answer tells: the figures, or the paper's number and record
-abbrev pub told : Worked → Told Sheet
-told (Figures figures) = done figures
-told (Refused refusal) = refused (number_of refusal) (record_of refusal)

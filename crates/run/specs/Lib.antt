@@ -1,4 +1,3 @@
 pub mod Record
-pub mod Places
 pub mod Figures
 pub mod Answers

@@ -23,6 +23,15 @@ abbrev pub pulses_at : Form → List ℕ → ℕ → ℕ
 pulses_at Short s at = long_at s at * 1000
 pulses_at Long s at = quad_at s at
 
+-- one side's fields, from the byte of its temperature on: of the two sides' in turn, every other one
+unfoldable pub side_from : List ℕ → ℕ → Side
+side_from s at =
+    record {
+      temperature = signed_at s at;
+      ctl = word_at s (at + 8);
+      liquid = record { pressure = word_at s (at + 4); compressibility = word_at s (at + 12); equilibrium = word_at s (at + 16) };
+    }
+
 -- '4 prover T (signed 2), 6 meter T (signed 2), 8 prover P, 10 meter P, 12 prover CTL, 14 meter CTL, 16 prover F, 18 meter F (2 each)';
 -- 02: 'Run records hold it at bytes 20 (prover) and 22 (meter)'; `old` is the byte from which they are counted so
 unfoldable pub fields_from : ℕ → List ℕ → ℕ → Run

@@ -5,17 +5,17 @@ pub mod records;
 
 ghost use Rattle.std.specs.Prelude.{◌≡◌, true, ◌*◌, ◌^◌, ◌<◌, ◌≤◌, length};
 ghost use Rattle.ranges.specs.Table.{k_factor_ok};
-ghost use Rattle.refusals.specs.Verdict.{fault_of};
 ghost use Rattle.exact.specs.Rounding.{rounded, ◌over◌};
 ghost use Rattle.factors.specs.Prover.{prover_ok};
 ghost use Rattle.factors.specs.Liquid.{liquid_ok};
 ghost use Rattle.factors.specs.Rounded.{cpl_at, combined_at};
 ghost use Rattle.run.specs.Record.{run_ok};
 ghost use Rattle.run.specs.Figures.{corrected_by, figures_from};
-ghost use Rattle.run.specs.Answers.{given_fault, figures_told, worked_of, shown_of, told};
+ghost use Rattle.run.specs.Answers.{given_fault, figures_told, worked_of, shown_of};
+ghost use Rattle.refusals.specs.Answered.{fault_of, told};
 
 use factors::{Liquid, Places, Prover};
-use refusals::{Refusal, Verdict};
+use refusals::Refusal;
 
 // The readings at one side of the run: T in 0.1 °F, CTL in 0.0001, and the liquid's P, F and Pe.
 #[derive(Clone, Copy)]
@@ -62,13 +62,6 @@ pub struct Figures {
     pub factor: u64,
 }
 
-// A run's figures, its factor among them, or why it has none.
-#[derive(Clone, Copy)]
-pub enum Worked {
-    Figures(Figures),
-    Refused(Refusal),
-}
-
 // num / den at 4 places; a quotient by zero is 0, and no answer rests on it.
 fn round(num: u64, den: u64) -> u64
     requires { num * 10000 < 2 ^ 64 }
@@ -81,7 +74,7 @@ fn find_cpl(liquid: Liquid) -> u32
     requires { liquid_ok liquid ≡ true }
     ensures { (result ≡ cpl_at 4 liquid) × (result ≤ 20000) }
 {
-    factors::value_or_zero(factors::cpl(liquid, Places::Four))
+    factors::cpl(liquid, Places::Four).unwrap_or(0)
 }
 
 // A volume by the combined factor of up to four factors.
@@ -89,7 +82,7 @@ fn correct(volume: u64, cpl: u32, list: &[u32]) -> Corrected
     requires { (volume ≤ 100000000) × (length list.now ≤ 4) × (combined_at 4 list.now ≤ 160000) }
     ensures { (result ≡ corrected_by volume cpl list.now) × (result.volume ≤ 1600000000) }
 {
-    let factor = factors::combined_or_zero(factors::combine(list, Places::Four));
+    let factor = factors::combine(list, Places::Four).unwrap_or(0);
     Corrected {
         cpl: cpl as u64,
         factor,
@@ -106,9 +99,9 @@ fn find_figures(prover: Prover, run: Run, indicated: u64) -> Figures
     let pipe = prover.pipe;
     let proved = run.prover;
     let metered = run.meter;
-    let cts = factors::value_or_zero(factors::cts(proved.temperature, metal, Places::Four));
+    let cts = factors::cts(proved.temperature, metal, Places::Four).unwrap_or(0);
     let liquid = proved.liquid;
-    let cps = factors::value_or_zero(factors::cps(liquid.pressure, pipe, Places::Four));
+    let cps = factors::cps(liquid.pressure, pipe, Places::Four).unwrap_or(0);
     let cpl = find_cpl(liquid);
     let list = [cts, cps, proved.ctl as u32, cpl];
     let at_prover = correct(prover.base as u64, cpl, &list);
@@ -126,64 +119,50 @@ fn find_figures(prover: Prover, run: Run, indicated: u64) -> Figures
     }
 }
 
-// 3, 4, 5: the prover's settings, K and the run's fields; `at` is the run's record, from 1.
-fn judge(prover: Prover, k: u32, run: Run, at: u16) -> Verdict
+// 3, 4, 5: the prover's settings, K and the run's fields; `at` is the run's record, from 1. These four are what `work_out` takes: a struct of
+// them would only be made there and taken apart in its two steps.
+fn judge(prover: Prover, k: u32, run: Run, at: u16) -> Result<(), Refusal>
     ensures { fault_of result ≡ given_fault prover k run at }
 {
-    refusals::or_else(
-        refusals::demand(factors::is_prover(prover), Refusal::ProverSetting),
-        refusals::or_else(
-            refusals::demand(ranges::is_k_factor(k as u64), Refusal::KFactorOrLimit),
-            refusals::demand(records::is_run(run), Refusal::RecordField(at)),
-        ),
-    )
+    refusals::demand(factors::is_prover(prover), Refusal::ProverSetting)?;
+    refusals::demand(ranges::is_k_factor(k as u64), Refusal::KFactorOrLimit)?;
+    refusals::demand(records::is_run(run), Refusal::RecordField(at))
 }
 
 // The figures, and 7, then 8, on the rounded ones.
-fn judge_figures(prover: Prover, k: u32, run: Run, at: u16) -> Worked
+fn judge_figures(prover: Prover, k: u32, run: Run, at: u16) -> Result<Figures, Refusal>
     requires { (prover_ok prover ≡ true) × (k_factor_ok k ≡ true) × (run_ok run ≡ true) }
     ensures { told result ≡ figures_told prover k run at }
 {
     let indicated = round(run.pulses, k as u64);
-    if ranges::is_volume(indicated) {
-        let figures = find_figures(prover, run, indicated);
-        if ranges::is_run_factor(figures.factor) {
-            return Worked::Figures(figures);
-        }
-        return Worked::Refused(Refusal::RunFactor(at));
-    }
-    Worked::Refused(Refusal::IndicatedVolume(at))
+    refusals::demand(ranges::is_volume(indicated), Refusal::IndicatedVolume(at))?;
+    let figures = find_figures(prover, run, indicated);
+    refusals::demand(
+        ranges::is_run_factor(figures.factor),
+        Refusal::RunFactor(at),
+    )?;
+    Ok(figures)
 }
 
 // One run worked out; `at` is its record, from 1.
-pub fn work_out(prover: Prover, k: u32, run: Run, at: u16) -> Worked
+pub fn work_out(prover: Prover, k: u32, run: Run, at: u16) -> Result<Figures, Refusal>
     ensures { told result ≡ worked_of prover k run at }
 {
-    let verdict = judge(prover, k, run, at);
-    match verdict {
-        Verdict::Fine => judge_figures(prover, k, run, at),
-        Verdict::Refused(refusal) => Worked::Refused(refusal),
-    }
+    judge(prover, k, run, at)?;
+    judge_figures(prover, k, run, at)
 }
 
 // One run's figures from its record alone, for a person to check.
-pub fn show(prover: Prover, k: u32, form: Form, bytes: &[u8]) -> Worked
+pub fn show(prover: Prover, k: u32, form: Form, bytes: &[u8]) -> Result<Figures, Refusal>
     ensures { told result ≡ shown_of prover k form bytes.now }
 {
     let run = records::decode(form, bytes, 0);
     let size = records::size(form);
-    let verdict = refusals::or_else(
-        refusals::demand(bytes.len() == size, Refusal::Records),
-        refusals::or_else(
-            judge(prover, k, run, 1),
-            refusals::demand(
-                octets::are_zero(bytes, records::shift(form) + 24, size),
-                Refusal::UnnamedByte(1),
-            ),
-        ),
-    );
-    match verdict {
-        Verdict::Fine => judge_figures(prover, k, run, 1),
-        Verdict::Refused(refusal) => Worked::Refused(refusal),
-    }
+    refusals::demand(bytes.len() == size, Refusal::Records)?;
+    judge(prover, k, run, 1)?;
+    refusals::demand(
+        octets::are_zero(bytes, records::shift(form) + 24, size),
+        Refusal::UnnamedByte(1),
+    )?;
+    judge_figures(prover, k, run, 1)
 }

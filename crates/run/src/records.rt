@@ -1,13 +1,12 @@
 // The run record (01, 'Records') in its two forms (02, 'Longer run records'): its fields, and what a job and a move judge of it.
-ghost use Rattle.std.specs.Prelude.{◌≡◌, ◌+◌, ◌≤◌, length};
-ghost use Rattle.refusals.specs.Verdict.{fault_of};
-ghost use Rattle.run.specs.Record.{size_of, shift_of, pulses_at, fields_from, run_from, run_at, side_ok, run_ok};
+ghost use Rattle.std.specs.Prelude.{◌≡◌, ◌+◌, ◌*◌, ◌≤◌, min, length};
+ghost use Rattle.run.specs.Record.{size_of, shift_of, pulses_at, side_from, fields_from, run_from, run_at, side_ok, run_ok};
 ghost use Rattle.run.specs.Answers.{record_fault};
-ghost use Rattle.run.specs.Places.{BeginsAt};
+ghost use Rattle.refusals.specs.Answered.{fault_of};
 
 use crate::{Form, Run, Side};
 use factors::Liquid;
-use refusals::{Refusal, Verdict};
+use refusals::Refusal;
 
 // A record's length, in bytes.
 pub fn size(form: Form) -> usize
@@ -29,24 +28,11 @@ pub(crate) fn shift(form: Form) -> usize
     }
 }
 
-// Where the record at a place begins, from 0; past the end, where its bytes read as 0, size * i might not fit, and the end stands for it.
+// Where the record at a place begins, from 0; past the end, where its bytes read as 0, the end stands for it.
 fn begin(form: Form, s: &[u8], i: usize) -> usize
-    ensures { (result ≤ length s.now) × BeginsAt form s.now i result }
+    ensures { result ≡ min (size_of form * i) (length s.now) }
 {
-    match form {
-        Form::Short => {
-            if i <= s.len() / 32 {
-                return 32 * i;
-            }
-            s.len()
-        }
-        Form::Long => {
-            if i <= s.len() / 48 {
-                return 48 * i;
-            }
-            s.len()
-        }
-    }
+    size(form).saturating_mul(i).min(s.len())
 }
 
 // Thousandths of a pulse, in either form.
@@ -59,33 +45,31 @@ fn read_pulses(form: Form, s: &[u8], at: usize) -> u64
     }
 }
 
+// One side's fields, from the byte of its temperature on: the meter's stand 2 bytes behind the prover's.
+fn read_side(s: &[u8], at: usize) -> Side
+    requires { at ≤ length s.now + 10 }
+    ensures { result ≡ side_from s.now at }
+{
+    Side {
+        temperature: octets::signed_at(s, at),
+        ctl: octets::word_at(s, at + 8),
+        liquid: Liquid {
+            pressure: octets::word_at(s, at + 4),
+            compressibility: octets::word_at(s, at + 12),
+            equilibrium: octets::word_at(s, at + 16),
+        },
+    }
+}
+
 // The fields behind the pulses, from the byte from which 01 counts them.
 fn read_fields(pulses: u64, s: &[u8], old: usize) -> Run
     requires { old ≤ length s.now + 4 }
     ensures { result ≡ fields_from pulses s.now old }
 {
-    let prover = Side {
-        temperature: octets::signed_at(s, old + 4),
-        ctl: octets::word_at(s, old + 12),
-        liquid: Liquid {
-            pressure: octets::word_at(s, old + 8),
-            compressibility: octets::word_at(s, old + 16),
-            equilibrium: octets::word_at(s, old + 20),
-        },
-    };
-    let meter = Side {
-        temperature: octets::signed_at(s, old + 6),
-        ctl: octets::word_at(s, old + 14),
-        liquid: Liquid {
-            pressure: octets::word_at(s, old + 10),
-            compressibility: octets::word_at(s, old + 18),
-            equilibrium: octets::word_at(s, old + 22),
-        },
-    };
     Run {
         pulses,
-        prover,
-        meter,
+        prover: read_side(s, old + 4),
+        meter: read_side(s, old + 6),
     }
 }
 
@@ -123,16 +107,14 @@ pub(crate) fn is_run(run: Run) -> bool
 }
 
 // 5, then 2, of the record at a place, from 0; `number` is its own, from 1.
-pub fn judge_record(form: Form, s: &[u8], i: usize, number: u16) -> Verdict
+pub fn judge_record(form: Form, s: &[u8], i: usize, number: u16) -> Result<(), Refusal>
     ensures { fault_of result ≡ record_fault form s.now i number }
 {
     let at = begin(form, s, i);
     let run = read_run(form, s, at);
-    refusals::or_else(
-        refusals::demand(is_run(run), Refusal::RecordField(number)),
-        refusals::demand(
-            octets::are_zero(s, at + shift(form) + 24, at + size(form)),
-            Refusal::UnnamedByte(number),
-        ),
+    refusals::demand(is_run(run), Refusal::RecordField(number))?;
+    refusals::demand(
+        octets::are_zero(s, at + shift(form) + 24, at + size(form)),
+        Refusal::UnnamedByte(number),
     )
 }

@@ -5,20 +5,8 @@ use native.Mathlib.Nat.{le_refl, mul-le-mul}
 use native.Mathlib.Omega.{arith}
 use Rattle.exact.specs.Rounding.{rounded_div}
 use Rattle.exact.proofs.Rounding.{at_most, nearest_only}
-use Rattle.refusals.proofs.Laws.{refusal_one, done_one, refused_number, refused_record}
 use Rattle.ticket.specs.Formulas.{indicated, factor, gross, net}
-use Rattle.ticket.specs.Answers.{told}
 use Rattle.ticket.specs.declared.Ticket.{Ticket}
-use Rattle.ticket.specs.declared.Volumes.{Volumes}
-use Rattle.ticket.specs.declared.Measured.{Measured}
-use Rattle.ticket.specs.declared.Measured.TheVariants.{Worked, Refused}
-
--- two answers that tell the same are the same
-pub told_one : (r s : Measured) → told r ≡ told s → r ≡ s
-told_one (Worked a) (Worked b) is = ap Worked (done_one is)
-told_one (Worked a) (Refused b) is = cc
-told_one (Refused a) (Worked b) is = cc
-told_one (Refused a) (Refused b) is = ap Refused (refusal_one a b (refused_number {A = Volumes} is) (refused_record {A = Volumes} is))
 
 module _ (t : Ticket) where
   -- sediment and water only take away

@@ -1,18 +1,10 @@
 -- What a ticket answers, by the paper: 'A ticket: 10, 11.'
 use Rattle.std.specs.Prelude.{leb}
-use Rattle.refusals.specs.Table.{number_of, record_of}
-use Rattle.refusals.specs.Told.{Told, done, refused, demand, or_else, judged}
+use Rattle.refusals.specs.Told.{Told, demand, or_else, judged}
 use Rattle.ticket.specs.Ranges.{ticket_ok}
 use Rattle.ticket.specs.Formulas.{factor, gross, net}
 use Rattle.ticket.specs.declared.Ticket.{Ticket}
 use Rattle.ticket.specs.declared.Volumes.{Volumes}
-use Rattle.ticket.specs.declared.Measured.{Measured}
-use Rattle.ticket.specs.declared.Measured.TheVariants.{Worked, Refused}
-
--- a ticket's volumes, or the paper's number and record
-abbrev pub told : Measured → Told Volumes
-told (Worked volumes) = done volumes
-told (Refused refusal) = refused (number_of refusal) (record_of refusal)
 
 -- the ticket's factor, its gross standard and its net volume
 unfoldable pub volumes : Ticket → Volumes

@@ -5,10 +5,11 @@
 ghost use Rattle.std.specs.Prelude.{◌≡◌, true, ◌*◌, ◌≤◌, ◌<◌};
 ghost use Rattle.exact.specs.Rounding.{rounded_div};
 ghost use Rattle.ticket.specs.Ranges.{ticket_ok};
-ghost use Rattle.ticket.specs.Answers.{told, volumes, ticket_of};
+ghost use Rattle.ticket.specs.Answers.{volumes, ticket_of};
+ghost use Rattle.refusals.specs.Answered.{told};
 
 use factors::{Liquid, Places};
-use refusals::{Refusal, Verdict};
+use refusals::Refusal;
 
 #[derive(Clone, Copy)]
 pub struct Ticket {
@@ -33,22 +34,16 @@ pub struct Volumes {
     pub net: u32,
 }
 
-#[derive(Clone, Copy)]
-pub enum Measured {
-    Worked(Volumes),
-    Refused(Refusal),
-}
-
 // Every field is within its range.
 fn is_ticket(ticket: Ticket) -> bool
     ensures { result ≡ ticket_ok ticket }
 {
-    let liquid = ticket.liquid;
     ranges::is_reading(ticket.opening as u64)
         & (ranges::is_reading(ticket.closing as u64)
             & (ranges::is_meter_factor(ticket.mf as u64)
                 & (ranges::is_ctl(ticket.ctl as u64)
-                    & (factors::is_liquid(liquid) & ranges::is_sediment(ticket.sediment as u64)))))
+                    & (factors::is_liquid(ticket.liquid)
+                        & ranges::is_sediment(ticket.sediment as u64)))))
 }
 
 // a * b / d to the nearest whole number, halves up, where 32 bits hold it.
@@ -64,8 +59,7 @@ fn correct(ticket: Ticket) -> Volumes
     requires { (ticket_ok ticket ≡ true) × (ticket.opening ≤ ticket.closing) }
     ensures { result ≡ volumes ticket }
 {
-    let liquid = ticket.liquid;
-    let cpl = factors::value_or_zero(factors::cpl(liquid, Places::Four));
+    let cpl = factors::value_or_zero(factors::cpl(ticket.liquid, Places::Four));
     let indicated = (ticket.closing - ticket.opening) as u64;
     let supplied = ticket.mf as u64 * ticket.ctl as u64;
     let kept = 100000 - ticket.sediment as u64;
@@ -76,16 +70,13 @@ fn correct(ticket: Ticket) -> Volumes
 }
 
 // The ticket worked out: any field out of range is 10, then closing below opening 11.
-pub fn work_out(ticket: Ticket) -> Measured
+pub fn work_out(ticket: Ticket) -> Result<Volumes, Refusal>
     ensures { told result ≡ ticket_of ticket }
 {
-    let fields = refusals::demand(is_ticket(ticket), Refusal::TicketField);
-    let order = refusals::demand(
+    refusals::demand(is_ticket(ticket), Refusal::TicketField)?;
+    refusals::demand(
         ticket.opening <= ticket.closing,
         Refusal::ClosingBelowOpening,
-    );
-    match refusals::or_else(fields, order) {
-        Verdict::Fine => Measured::Worked(correct(ticket)),
-        Verdict::Refused(refusal) => Measured::Refused(refusal),
-    }
+    )?;
+    Ok(correct(ticket))
 }

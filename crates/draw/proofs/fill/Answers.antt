@@ -1,35 +1,30 @@
--- `draw::fill` meets its contract: 1, 3, 5 and 2 in this order, and then the figures.
-use mathlib.Core.Bool.{Bool}
-use mathlib.Core.Path.{◌≡◌, sym, ap, ◌∙◌}
-use Rattle.refusals.specs.Told.{done, fine, demand, or_else}
-use Rattle.refusals.specs.Verdict.{fault_of}
-use Rattle.refusals.proofs.Laws.{judged_fine, judged_fault}
+-- `draw::fill` meets its contract: 1 for a record that is not whole and alone, 3 for the metal, then 5 and 2.
+use mathlib.Core.Path.{sym, ap, ◌∙◌}
+use Rattle.refusals.specs.Told.{done}
+use Rattle.refusals.proofs.Laws.{or_else_first, judged_fault, demand_was}
 use Rattle.draw.specs.Fill.{fill_ok}
 use Rattle.draw.specs.Drawn.{figures_of}
-use Rattle.draw.specs.Answers.{alone_fault, fill_of}
-use Rattle.draw.proofs.Sound.{alone_good}
-use Rattle.draw.proofs.fill.Lts.View as view
-use Rattle.draw.proofs.fill.Goals.{After-or_else-verdict, In-Fine}
+use Rattle.draw.specs.Answers.{fill_of}
+use Rattle.draw.proofs.Judged.{refusal_back}
+use Rattle.draw.proofs.Sound.{record_fields}
 use Rattle.draw.proofs.fill.Goals as goal
 
-found : (c : After-or_else-verdict) → fault_of c.or_else-verdict.result ≡ alone_fault c.args.metal c.args.bytes.now
-found c =
-    let three = c.demand-2.ensures ∙ ap (λ (b : Bool). demand b 3) c.is_metal.ensures in
-    let rest = c.or_else.ensures ∙ (λ i. or_else (three i) (c.judge_record.ensures i)) in
-    c.or_else-verdict.ensures ∙ (λ i. or_else (c.demand.ensures i) (rest i))
+pub returns-in_err-demand : goal.returns-in_err-demand
+unfolding fill_of
+returns-in_err-demand c = refusal_back _ _ c.from_residual.ensures.1 (judged_fault _ (or_else_first _ (sym c.in_err-demand.ensures)))
 
-nothing : (c : In-Fine) → alone_fault c.args.metal c.args.bytes.now ≡ fine
-nothing c = sym (found (view.up-After-or_else-verdict _ _ _ c.before.before)) ∙ ap fault_of c.in-Fine.is
+pub returns-in_err-demand-2 : goal.returns-in_err-demand-2
+unfolding fill_of
+returns-in_err-demand-2 c = rw (← c.in_ok-demand.ensures, ← c.is_metal.ensures) (refusal_back _ _ c.from_residual-in_err-demand-2.ensures.1 (judged_fault _ (or_else_first _ (sym c.in_err-demand-2.ensures))))
+
+pub returns-in_err-judge_record : goal.returns-in_err-judge_record
+unfolding fill_of
+returns-in_err-judge_record c = rw (← c.in_ok-demand.ensures, ← c.is_metal.ensures, ← c.in_ok-demand-2.ensures) (refusal_back _ _ c.from_residual-in_err-judge_record.ensures.1 (judged_fault _ (sym c.in_err-judge_record.ensures)))
 
 pub work_out-requires : goal.work_out-requires
-work_out-requires c = let a = c.args in
-    let good = alone_good a.metal a.bytes.now (nothing (goal.at.work_out-requires c).In-Fine) in
-    (good.0, ap fill_ok c.decode.ensures ∙ good.1)
+work_out-requires c =
+    (sym c.is_metal.ensures ∙ demand_was _ 3 (sym c.in_ok-demand-2.ensures), ap fill_ok c.decode.ensures ∙ record_fields c.args.bytes.now 0 (sym c.in_ok-judge_record.ensures))
 
-pub returns-in-Fine : goal.returns-in-Fine
+pub returns : goal.returns
 unfolding fill_of
-returns-in-Fine c = ap done (c.work_out.ensures ∙ ap (figures_of c.args.metal) c.decode.ensures) ∙ sym (judged_fine _ (nothing (goal.at.returns-in-Fine c).In-Fine))
-
-pub returns-in-Refused : goal.returns-in-Refused
-unfolding fill_of
-returns-in-Refused c = sym (judged_fault _ (sym (found (goal.at.returns-in-Refused c).After-or_else-verdict) ∙ ap fault_of c.in-Refused.is))
+returns c = rw (← c.in_ok-demand.ensures, ← c.is_metal.ensures, ← c.in_ok-demand-2.ensures, ← c.in_ok-judge_record.ensures) (ap done (c.work_out.ensures ∙ ap (figures_of c.args.metal) c.decode.ensures))

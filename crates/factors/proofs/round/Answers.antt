@@ -5,7 +5,6 @@ use native.Mathlib.Omega.{arith}
 use Rattle.exact.specs.Rounding.{rounded, ◌over◌}
 use Rattle.exact.specs.Quotient.{quotient_of, value_or_zero}
 use Rattle.factors.specs.Places.{digits}
-use Rattle.factors.specs.declared.Factor.TheVariants.{Value}
 use Rattle.factors.proofs.Laws.{rounded_small, rounded_by_words}
 use Rattle.factors.proofs.round.Goals.{After-round_or_zero}
 use Rattle.factors.proofs.round.Goals as goal
@@ -18,4 +17,4 @@ pub overflow_cast-result : goal.overflow_cast-result
 overflow_cast-result c = omega (arith, value (goal.at.overflow_cast-result c).After-round_or_zero, rounded_small c.args.places c.requires.0 c.requires.1)
 
 pub returns : goal.returns
-returns c = ap Value (value (goal.at.returns c).After-round_or_zero)
+returns c = value (goal.at.returns c).After-round_or_zero

@@ -1,5 +1,6 @@
--- `group::find_extremes` meets its contract. The loop's invariant: low and high, with the values to come, have the smallest and the largest of all.
+-- `group::find_extremes` meets its contract. The loop's invariant: the ends so far, with the values to come, have the smallest and the largest of all.
 use Prim.Native.Nat.{ℕ, ◌+◌}
+use native.Mathlib.Omega.{arith}
 use mathlib.Core.Path.{◌∙◌, ap}
 use mathlib.Core.List.{◌∷◌}
 use lib.ListN.{drop}
@@ -8,17 +9,14 @@ use Rattle.exact.proofs.Gathering.{next, finished}
 use Rattle.group.proofs.Gathering.{smallest_gathered, largest_gathered}
 use Rattle.group.proofs.find_extremes.Goals as goal
 
-pub loop-i-preserved : goal.loop-i-preserved
-loop-i-preserved c = let l = c.loop-i in
-    let xs = c.args.values.now in
-    let inside = c.loop-i-test.true in (
-      ap (λ (n : ℕ). smallest (n ∷ drop (l.i + 1) xs)) c.lesser-low.ensures
-          ∙ next smallest_gathered xs l.i inside l.invariant.0,
-      ap (λ (n : ℕ). largest (n ∷ drop (l.i + 1) xs)) c.greater-high.ensures
-          ∙ next largest_gathered xs l.i inside l.invariant.1,
+pub loop-x-preserved : goal.loop-x-preserved
+loop-x-preserved c = let l = c.loop-x in
+    let xs = c.in_ok-first.rest.now in (
+      ap (λ (n : ℕ). smallest (n ∷ drop (l.x-index + 1) xs)) c.min.ensures ∙ next smallest_gathered xs l.x-index c.loop-x-test.true l.invariant.0,
+      ap (λ (n : ℕ). largest (n ∷ drop (l.x-index + 1) xs)) c.max.ensures ∙ next largest_gathered xs l.x-index c.loop-x-test.true l.invariant.1,
     )
 
 pub returns : goal.returns
-returns c = let l = c.loop-i in
-    let xs = c.args.values.now in
-    (finished smallest_gathered xs l.i c.loop-i-test.false l.invariant.0, finished largest_gathered xs l.i c.loop-i-test.false l.invariant.1)
+returns c = let l = c.loop-x in
+    let xs = c.in_ok-first.rest.now in
+    (omega (arith, c.in_ok-first.ensures.cases.1), finished smallest_gathered xs l.x-index c.loop-x-test.false l.invariant.0, finished largest_gathered xs l.x-index c.loop-x-test.false l.invariant.1)

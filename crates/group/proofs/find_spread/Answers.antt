@@ -1,41 +1,43 @@
 -- `group::find_spread` meets its contract: one rounded quotient of the two ends.
-use mathlib.Core.Path.{◌≡◌, refl, sym, ap, ◌∙◌}
-use mathlib.Core.List.{List, [], ◌∷◌}
-use Prim.Native.Nat.{ℕ, ◌*◌, ◌-◌}
+use Rattle.std.proofs.Common.{rules}
+use Rattle.std.proofs.lemmas.Option.{MatchOption-at_some}
+use Rattle.std.proofs.lemmas.Result.{err_from_is_err_and}
+use mathlib.Core.Path.{◌≡◌, sym, ap, ◌∙◌}
+use Prim.Native.Nat.{◌*◌, ◌-◌}
 use native.Mathlib.Omega.{arith}
-use lib.ListN.{length}
 use Rattle.exact.specs.Quotient.{quotient_of}
-use Rattle.group.specs.Repeatability.{smallest}
+use Rattle.exact.proofs.Answers.{with_error, mapped}
 use Rattle.group.specs.Spread.{spread_of}
 use Rattle.refusals.specs.Told.{done}
+use Rattle.refusals.specs.declared.Refusal.TheVariants.{NoGroup}
 use Rattle.group.proofs.Bounds.{smallest_at_most_largest}
-use Rattle.group.proofs.Spreads.{by_quotient, by-quotient, none_of_none}
-use Rattle.group.proofs.find_spread.Goals.{After-rounded_ratio-quotient}
+use Rattle.group.proofs.Spreads.{AreEnds, by_spread, by-quotient, none_told}
+use Rattle.group.proofs.find_spread.Goals.{In_ok-ends, After-map_err}
 use Rattle.group.proofs.find_spread.Goals as goal
 
-no-smallest : (xs : List ℕ) → length xs ≡ 0 → smallest xs ≡ 0
-unfolding smallest
-no-smallest [] is = refl
-no-smallest (x ∷ xs) is = absurd (omega arith)
+found : (c : In_ok-ends) → AreEnds c.args.values.now c.in_ok-ends.ends
+found c = MatchOption-at_some _ _ c.in_ok-ends.ends c.in_ok-ends.ensures.ok_part c.find_extremes.ensures
 
-told-by : (c : After-rounded_ratio-quotient) → by_quotient c.args.values.now c.rounded_ratio-quotient.result ≡ spread_of c.args.values.now
+told-by : (c : After-map_err) → by_spread c.args.values.now c.map_err.result ≡ spread_of c.args.values.now
 told-by c =
-    let ends = c.find_extremes-ends.ensures in
     let xs = c.args.values.now in
-    ap (by_quotient xs) (c.rounded_ratio-quotient.ensures ∙ (λ i. quotient_of ((ends.1 i - ends.0 i) * 100000) (ends.0 i))) ∙ by-quotient xs
+    let ends : AreEnds xs c.in_ok-ends.ends = MatchOption-at_some _ _ c.in_ok-ends.ends c.in_ok-ends.ensures.ok_part c.find_extremes.ensures in
+    ap (by_spread xs) (mapped NoGroup c.rounded_ratio-quotient.result c.map_err.result c.map_err.ensures.cases (λ why given k. search rules)
+    ∙ ap (with_error NoGroup) (c.rounded_ratio-quotient.ensures ∙ (λ i. quotient_of ((ends.2 i - ends.1 i) * 100000) (ends.1 i)))) ∙ by-quotient xs
 
-pub returns-then-values-eq0 : goal.returns-then-values-eq0
-returns-then-values-eq0 c = let xs = c.args.values.now in none_of_none xs (no-smallest xs c.if-values-eq0.true)
+pub returns-in_err-ends : goal.returns-in_err-ends
+returns-in_err-ends c =
+    let p = err_from_is_err_and c.from_residual.result c.from_residual.ensures.1 in
+    rw (p.1, p.2) (none_told c.args.values.now c.find_extremes.result _ c.find_extremes.ensures c.in_err-ends.ensures.value)
 
 pub overflow_sub-ends : goal.overflow_sub-ends
-overflow_sub-ends c = omega (arith, c.find_extremes-ends.ensures, smallest_at_most_largest c.args.values.now)
+overflow_sub-ends c = omega (arith, found (goal.at.overflow_sub-ends c).In_ok-ends, smallest_at_most_largest c.args.values.now)
 
-pub returns-in-Value : goal.returns-in-Value
-returns-in-Value c = let ends = c.find_extremes-ends.ensures in
-    (λ i. done (record { smallest = ends.0 i; largest = ends.1 i; spread = c.in-Value.spread })) ∙ sym (ap (by_quotient c.args.values.now) c.in-Value.is) ∙ told-by (goal.at.returns-in-Value c).After-rounded_ratio-quotient
+pub returns-in_err-spread : goal.returns-in_err-spread
+returns-in_err-spread c =
+    let p = err_from_is_err_and c.from_residual-in_err-spread.result c.from_residual-in_err-spread.ensures.1 in
+    rw (p.1, p.2) (sym (ap (by_spread c.args.values.now) c.in_err-spread.was) ∙ told-by (goal.at.returns-in_err-spread c).After-map_err)
 
-pub returns-in-ZeroDivisor : goal.returns-in-ZeroDivisor
-returns-in-ZeroDivisor c = sym (ap (by_quotient c.args.values.now) c.in-ZeroDivisor.is) ∙ told-by (goal.at.returns-in-ZeroDivisor c).After-rounded_ratio-quotient
-
-pub returns-in-TooLarge : goal.returns-in-TooLarge
-returns-in-TooLarge c = sym (ap (by_quotient c.args.values.now) c.in-TooLarge.is) ∙ told-by (goal.at.returns-in-TooLarge c).After-rounded_ratio-quotient
+pub returns : goal.returns
+returns c = let ends = found (goal.at.returns c).In_ok-ends in
+    (λ i. done (record { smallest = ends.1 i; largest = ends.2 i; spread = c.in_ok-spread.spread })) ∙ sym (ap (by_spread c.args.values.now) c.in_ok-spread.was) ∙ told-by (goal.at.returns c).After-map_err

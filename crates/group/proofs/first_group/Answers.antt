@@ -1,38 +1,16 @@
--- `group::first_group` meets its contract. The loop's invariant: the first group of all is the first from place `at` on.
-use mathlib.Core.Path.{sym}
-use Prim.Native.Nat.{◌+◌, ◌-◌}
-use native.Mathlib.Omega.{arith}
-use lib.ListN.{length}
-use Rattle.octets.specs.FirstToLast.{place_if}
-use Rattle.octets.proofs.FirstToLast.{places as place-search, done, place_next, place_hit}
-use Rattle.group.specs.Repeatability.{qualifies_at}
-use Rattle.group.proofs.Groups.{none_of_no_size, none_of_too_few, search_begins, part_qualifies}
+-- `group::first_group` meets its contract: the first of the windows that is a group.
+use Rattle.std.proofs.Common.{rules, arith, tests}
+use Rattle.std.proofs.lemmas.Iterator.Search.{position_from_yields_List}
+use mathlib.Core.Path.{◌∙◌}
+use Rattle.group.specs.Repeatability.{qualifies}
+use Rattle.group.proofs.Groups.{none_of_no_size}
+use Rattle.group.proofs.Windows.{groups_yielded, first_position}
 use Rattle.group.proofs.first_group.Goals as goal
 
 pub returns-then-size-eq0 : goal.returns-then-size-eq0
-returns-then-size-eq0 c = let a = c.args in
-    none_of_no_size a.limit a.size a.values.now c.if-size-eq0.true
-
-pub returns-then-values-size : goal.returns-then-values-size
-returns-then-values-size c = let a = c.args in
-    none_of_too_few a.limit a.size a.values.now c.if-values-size.true
-
-pub loop-at-init : goal.loop-at-init
-loop-at-init c = let a = c.args in
-    search_begins a.limit a.size a.values.now
-
-pub returns-then-is_group : goal.returns-then-is_group
-returns-then-is_group c = let l = c.loop-at in
-    let a = c.args in
-    sym (place_hit (qualifies_at a.limit a.size a.values.now) (length a.values.now + 1 - a.size) l.at (omega arith)
-    (part_qualifies a.limit a.size a.values.now l.at c.is_group.ensures c.if-is_group.true) l.invariant)
-
-pub loop-at-preserved : goal.loop-at-preserved
-loop-at-preserved c = let l = c.loop-at in
-    let a = c.args in
-    place_next (qualifies_at a.limit a.size a.values.now) (length a.values.now + 1 - a.size) l.at (omega arith) (part_qualifies a.limit a.size a.values.now l.at c.is_group.ensures c.if-is_group.false) l.invariant
+returns-then-size-eq0 c = none_of_no_size c.args.limit c.args.size c.args.values.now c.if-size-eq0.true
 
 pub returns : goal.returns
-returns c = let l = c.loop-at in
-    let a = c.args in
-    sym (done place-search (place_if (qualifies_at a.limit a.size a.values.now)) (length a.values.now + 1 - a.size) l.at (omega arith) l.invariant)
+returns c = let a = c.args in
+    position_from_yields_List (qualifies a.limit) _ _ _ c.position.ensures.ran (groups_yielded a.size a.values.now c.windows.ensures.size c.windows.ensures.rest (omega arith)) (λ x b q k. search (rules, tests))
+    ∙ first_position a.limit a.size a.values.now

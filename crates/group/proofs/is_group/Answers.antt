@@ -21,14 +21,13 @@ compared limit xs low high spread allowed h is-low is-high is-spread is-allowed 
     ∙ (λ i. leb ((is-high i - is-low i) * 10000) (limit * is-low i))
     ∙ sym (qualifies_some limit xs h)
 
-pub returns-then-values-eq0 : goal.returns-then-values-eq0
-returns-then-values-eq0 c = sym (qualifies_none c.args.limit c.args.values.now c.if-values-eq0.true)
+pub returns-in_default : goal.returns-in_default
+returns-in_default c = sym (qualifies_none c.args.limit c.args.values.now c.in_default.ensures)
 
 pub overflow_sub-ends : goal.overflow_sub-ends
-overflow_sub-ends c = omega (arith, c.find_extremes-ends.ensures, smallest_at_most_largest c.args.values.now)
+overflow_sub-ends c = omega (arith, c.in-Some.ensures, smallest_at_most_largest c.args.values.now)
 
 pub returns : goal.returns
-returns c = let e = c.find_extremes-ends in
-    let a = c.args in
+returns c = let ends = c.in-Some.ensures in
     c.is_at_most.ensures
-    ∙ compared a.limit a.values.now e.result.smallest e.result.largest c.product-spread.result c.product-allowed.result (omega arith) e.ensures.0 e.ensures.1 c.product-spread.ensures c.product-allowed.ensures
+    ∙ compared c.args.limit c.args.values.now c.in-Some.ends.smallest c.in-Some.ends.largest c.product-spread.result c.product-allowed.result ends.0 ends.1 ends.2 c.product-spread.ensures c.product-allowed.ensures

@@ -14,4 +14,4 @@ returns c = let sum = c.sum in
     let xs = c.args.values.now in
     c.value_or_zero.ensures
     ∙ ap value_or_zero (c.rounded_quotient.ensures ∙ ap (λ (n : ℕ). quotient_of n (length xs)) (ap value_of sum.ensures ∙ value_wide _))
-    ∙ mean_value xs (λ k h. omega (arith, c.shared_slice_known-1.given k))
+    ∙ mean_value xs (λ k h. omega (arith, c.type_inv.values k))

@@ -1,21 +1,10 @@
--- `hex_words::are_hex` meets its contract. The loop's invariant: all are digits exactly when those left are.
-use mathlib.Core.Path.{sym, ◌∙◌}
-use Prim.Native.Nat.{◌≤◌, ◌<◌}
-use native.Mathlib.Omega.{arith}
-use lib.ListN.{get_or}
-use Rattle.hex_words.specs.Hex.{hex_of}
-use Rattle.hex_words.proofs.Hex.{all_step, all-stop, all_end}
+-- `hex_words::are_hex` meets its contract: each byte is a digit.
+use Rattle.std.proofs.Common.{rules, tests, ◌∙◌}
+use Rattle.std.proofs.lemmas.Iterator.{YieldsList-from_slice}
+use Rattle.std.proofs.lemmas.Iterator.Search.{all_from_yields_List}
+use Rattle.hex_words.proofs.Hex.{is_digit, is_some_if, all_digits}
 use Rattle.hex_words.proofs.are_hex.Goals as goal
 
-pub returns-then-value_hex-gt15 : goal.returns-then-value_hex-gt15
-returns-then-value_hex-gt15 c = let l = c.loop-i in
-    let w = c.args.word.now in
-    let h : 15 < hex_of (get_or w l.i 0) = omega (arith, c.value_hex.ensures.0) in sym (l.invariant.0 ∙ all-stop w l.i (omega arith) h)
-
-pub loop-i-preserved : goal.loop-i-preserved
-loop-i-preserved c = let l = c.loop-i in
-    let w = c.args.word.now in
-    let h : hex_of (get_or w l.i 0) ≤ 15 = omega (arith, c.value_hex.ensures.0) in (l.invariant.0 ∙ all_step w l.i (omega arith) h, omega arith)
-
 pub returns : goal.returns
-returns c = let l = c.loop-i in let w = c.args.word.now in sym (l.invariant.0 ∙ all_end w l.i (omega arith))
+returns c = let w = c.args.word.now in
+    all_from_yields_List is_digit _ _ _ c.all.ensures.ran (YieldsList-from_slice w c.iter.ensures.rest) (λ x b q k. search (rules, tests, is_some_if)) ∙ all_digits w

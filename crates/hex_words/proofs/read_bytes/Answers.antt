@@ -1,25 +1,16 @@
 -- `hex_words::read_bytes` meets its contract. The loop's invariant: the first i bytes stand in their places, and the rest is as it was.
 use mathlib.Core.Path.{◌≡◌, refl, sym, ap, ◌∙◌}
-use Prim.Native.Nat.{ℕ, ◌+◌, ◌*◌, ◌/◌}
+use Prim.Native.Nat.{◌+◌, ◌/◌}
 use native.Mathlib.Omega.{arith}
-use lib.ListN.{length, get_or}
+use lib.ListN.{length}
 use lib.Seq.{length-take-le}
 use Rattle.octets.specs.Octets.{written_at}
 use Rattle.octets.proofs.Laws.{written_not}
-use Rattle.hex_words.specs.Hex.{hex_of, pair_of, pairs}
+use Rattle.hex_words.specs.Hex.{pairs}
 use Rattle.words.specs.Written.{place_after}
-use Rattle.hex_words.proofs.Hex.{pairs_length, pairs_at, bytes_none, bytes_some, place_none, written_none, one_pair, all_pairs, as_long}
+use Rattle.hex_words.proofs.Hex.{pairs_length, pairs_at, bytes_some, one_pair, all_pairs, as_long}
 use Rattle.words.proofs.Written.{place_fits, place_not}
 use Rattle.hex_words.proofs.read_bytes.Goals as goal
-
-pub returns-then-not-are_bytes : goal.returns-then-not-are_bytes
-returns-then-not-are_bytes c = let a = c.args in
-    let e = bytes_none a.word.now (sym c.are_bytes.ensures ∙ c.if-not-are_bytes.true) in
-    record {
-      counts = (omega arith, refl);
-      place = sym (ap (place_after a.into.now 0) e ∙ place_none a.into.now);
-      left = sym (ap (written_at a.into.now 0) e ∙ written_none a.into.now);
-    }
 
 pub returns-then-into-count : goal.returns-then-into-count
 returns-then-into-count c = let a = c.args in
@@ -33,13 +24,9 @@ returns-then-into-count c = let a = c.args in
 
 pub loop-i-preserved : goal.loop-i-preserved
 loop-i-preserved c = let l = c.loop-i in
-    let a = c.args in
-    let w = a.word.now in let n = pairs_length w in (
-      omega arith,
-      one_pair a.into.now w l.into l.i c.join_hex.result (omega arith) (omega arith) l.invariant.1
-          (c.join_hex.ensures ∙ ap (λ (h : ℕ). pair_of h c.value_hex-low.result) c.value_hex-high.ensures.0
-          ∙ ap (pair_of (hex_of (get_or w (2 * l.i) 0))) c.value_hex-low.ensures.0 ∙ sym (pairs_at w l.i (omega arith))),
-    )
+    let w = c.args.word.now in
+    let n = pairs_length w in
+    one_pair c.args.into.now w l.into l.i c.join_hex.result (omega arith) (omega arith) l.invariant (c.join_hex.ensures ∙ sym (pairs_at w l.i (omega arith)))
 
 pub returns : goal.returns
 returns c = let l = c.loop-i in
@@ -47,9 +34,9 @@ returns c = let l = c.loop-i in
     let w = a.word.now in
     let n = pairs_length w in
     let e = bytes_some w (sym c.are_bytes.ensures ∙ c.if-not-are_bytes.false) in
-    let k = as_long a.into.now w l.into l.i (omega arith) (omega arith) l.invariant.1 in
+    let k = as_long a.into.now w l.into l.i (omega arith) (omega arith) l.invariant in
     record {
       counts = (omega arith, sym (length-take-le _ l.into (omega arith)));
       place = sym (ap (place_after a.into.now 0) e ∙ place_fits a.into.now 0 (pairs w) (omega arith) ∙ (let z : 0 + length (pairs w) ≡ length w / 2 = omega arith in z));
-      left = all_pairs a.into.now w l.into l.i (omega arith) (omega arith) l.invariant.1 ∙ sym (ap (written_at a.into.now 0) e);
+      left = all_pairs a.into.now w l.into l.i (omega arith) (omega arith) l.invariant ∙ sym (ap (written_at a.into.now 0) e);
     }

@@ -1,12 +1,8 @@
 -- `hex_words::read_bytes` meets its contract. The loop's invariant: the first i bytes stand in their places, and the rest is as it was.
 use mathlib.Core.Path.{◌≡◌}
-use Prim.Native.Nat.{◌-◌, ◌≤◌}
 use lib.Seq.{paste}
 use Rattle.hex_words.specs.Hex.{pairs}
 use Rattle.hex_words.proofs.read_bytes.Given as goal
 
 abbrev pub invariant-loop-i : goal.invariant-loop-i
-invariant-loop-i l = (l.i ≤ l.count) × (l.into ≡ paste l.initial.into 0 (pairs l.word) l.i)
-
-abbrev pub decreases-loop-i : goal.decreases-loop-i
-decreases-loop-i l = l.count - l.i
+invariant-loop-i l = l.into ≡ paste l.initial.into 0 (pairs l.word) l.i

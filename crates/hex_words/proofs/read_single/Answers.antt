@@ -1,10 +1,9 @@
 -- `hex_words::read_single` meets its contract: of a single the four bytes, turned round, are its 32 bits.
 use mathlib.Core.Bool.{Bool, cond}
 use mathlib.Core.Path.{◌≡◌, ap, sym, ◌∙◌}
-use mathlib.Core.List.{List, [], ◌∷◌}
+use mathlib.Core.List.{List}
 use Prim.Native.Nat.{ℕ}
-use lib.ListN.{get_or}
-use Rattle.octets.specs.Octets.{long_at}
+use Rattle.std.specs.Int.{w32, from_be_bytes}
 use Rattle.hex_words.specs.Hex.{is_single, pairs, most_first, single_of}
 use Rattle.hex_words.proofs.Hex.{single_bytes, most-first}
 use Rattle.hex_words.proofs.read_single.Goals as goal
@@ -19,7 +18,7 @@ returns-then-not-is_single c = by-test c.args.word.now (sym c.is_single.ensures 
 pub returns : goal.returns
 returns c = let w = c.args.word.now in
     let is = sym c.is_single.ensures ∙ c.if-not-is_single.false in
-    c.long_at.ensures
-    ∙ ap (λ (b : List ℕ). long_at (get_or b 3 0 ∷ get_or b 2 0 ∷ get_or b 1 0 ∷ get_or b 0 0 ∷ []) 0) (c.read_bytes-count.ensures.left ∙ single_bytes w is)
+    c.from_be_bytes.ensures
+    ∙ ap (from_be_bytes w32) (c.read_bytes-count.ensures.left ∙ single_bytes w is)
     ∙ most-first w is
     ∙ by-test w is

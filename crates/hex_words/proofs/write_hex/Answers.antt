@@ -3,30 +3,18 @@ use mathlib.Core.Path.{◌≡◌, sym, ◌∙◌}
 use Prim.Native.Nat.{◌+◌, ◌*◌}
 use native.Mathlib.Omega.{arith}
 use lib.ListN.{length}
-use Rattle.octets.proofs.Laws.{written_not}
 use Rattle.hex_words.specs.Hex.{hex_text}
 use Rattle.hex_words.proofs.Spelling.{text_length, text_high, text_low, two_more, all_text}
-use Rattle.words.proofs.Written.{place_fits, place_not}
+use Rattle.words.proofs.Written.{place_fits}
 use Rattle.hex_words.proofs.write_hex.Goals as goal
-
-pub returns-then-out-at : goal.returns-then-out-at
-returns-then-out-at c = let a = c.args in let t = hex_text a.bytes.now in let n = text_length a.bytes.now in record { place = sym (place_not a.out.now a.at t (omega arith)); left = sym (written_not a.out.now a.at t (omega arith)) }
-
-pub returns-then-out-at-2 : goal.returns-then-out-at-2
-returns-then-out-at-2 c = let a = c.args in
-    let t = hex_text a.bytes.now in
-    let n = text_length a.bytes.now in
-    record { place = sym (place_not a.out.now a.at t (omega arith)); left = sym (written_not a.out.now a.at t (omega arith)) }
 
 pub loop-i-preserved : goal.loop-i-preserved
 loop-i-preserved c = let l = c.loop-i in
     let a = c.args in
     let t = hex_text a.bytes.now in
-    let n = text_length a.bytes.now in (
-      omega arith,
-      two_more a.out.now t l.out a.at l.i _ _ (omega arith) (omega arith) l.invariant.1
-          (c.spell_high-high.ensures ∙ sym (text_high a.bytes.now l.i (omega arith))) (c.spell_low-low.ensures ∙ sym (text_low a.bytes.now l.i (omega arith))),
-    )
+    let n = text_length a.bytes.now in
+    two_more a.out.now t l.out a.at l.i _ _ (omega arith) (omega arith) l.invariant
+    (c.spell_hex.ensures ∙ sym (text_high a.bytes.now l.i (omega arith))) (c.spell_hex-in-loop-i.ensures ∙ sym (text_low a.bytes.now l.i (omega arith)))
 
 pub returns : goal.returns
 returns c = let l = c.loop-i in
@@ -34,4 +22,4 @@ returns c = let l = c.loop-i in
     let t = hex_text a.bytes.now in
     let n = text_length a.bytes.now in
     let e : a.at + length t ≡ a.at + 2 * length a.bytes.now = omega arith in
-    record { place = sym (place_fits a.out.now a.at t (omega arith) ∙ e); left = all_text a.out.now t l.out a.at (2 * l.i) (omega arith) (omega arith) l.invariant.1 }
+    record { place = sym (place_fits a.out.now a.at t (omega arith) ∙ e); left = all_text a.out.now t l.out a.at (2 * l.i) (omega arith) (omega arith) l.invariant }

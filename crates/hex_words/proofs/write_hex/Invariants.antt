@@ -1,13 +1,9 @@
 -- `hex_words::write_hex` meets its contract. The loop's invariant: the digits of the first i bytes stand in their places, and the rest is as it was.
 use mathlib.Core.Path.{◌≡◌}
-use Prim.Native.Nat.{◌*◌, ◌-◌, ◌≤◌}
-use lib.ListN.{length}
+use Prim.Native.Nat.{◌*◌}
 use lib.Seq.{paste}
 use Rattle.hex_words.specs.Hex.{hex_text}
 use Rattle.hex_words.proofs.write_hex.Given as goal
 
 abbrev pub invariant-loop-i : goal.invariant-loop-i
-invariant-loop-i l = (l.i ≤ length l.bytes) × (l.out ≡ paste l.initial.out l.at (hex_text l.bytes) (2 * l.i))
-
-abbrev pub decreases-loop-i : goal.decreases-loop-i
-decreases-loop-i l = length l.bytes - l.i
+invariant-loop-i l = l.out ≡ paste l.initial.out l.at (hex_text l.bytes) (2 * l.i)

@@ -13,7 +13,7 @@ use Rattle.lookup.specs.Pair.{asked_ok}
 use Rattle.lookup.specs.Rank.{rank_of}
 use Rattle.lookup.proofs.Counted.{counted}
 use Rattle.lookup.proofs.HalfDegree.{half_by_two, half_counted}
-use Rattle.lookup.proofs.Rank.{asked_is, not_asked}
+use Rattle.lookup.proofs.Rank.{asked_is, is_ranked, not_ranked}
 use Rattle.lookup.proofs.rank_asked.Goals.{After-is_gravity, After-round_to_half, Start, Then-is_temperature-is_gravity}
 use Rattle.lookup.proofs.rank_asked.Goals as goal
 
@@ -54,7 +54,8 @@ unfolding rank_of
 returns-then-is_temperature-is_gravity c = let a = c.args in
     let counts = c.count_up.ensures.0 ∙ ap counted (back (goal.at.returns-then-is_temperature-is_gravity c).Start) in
     let temperature = c.round_to_half-then-is_temperature-is_gravity.ensures ∙ ap half_degree counts ∙ sym (half_counted a.temperature (warm-enough (goal.at.returns-then-is_temperature-is_gravity c).Then-is_temperature-is_gravity)) in
-    (λ i. 4096 * c.round_to_half.ensures i + temperature i) ∙ sym (asked_is a.temperature a.gravity (in-range (goal.at.returns-then-is_temperature-is_gravity c).Then-is_temperature-is_gravity))
+    let ok = in-range (goal.at.returns-then-is_temperature-is_gravity c).Then-is_temperature-is_gravity in
+    is_ranked ok ((λ i. 4096 * c.round_to_half.ensures i + temperature i) ∙ sym (asked_is a.temperature a.gravity ok))
 
 pub returns : goal.returns
-returns c = let a = c.args in sym (not_asked a.temperature a.gravity (tested (goal.at.returns c).After-is_gravity ∙ c.if-is_temperature-is_gravity.false))
+returns c = not_ranked _ (tested (goal.at.returns c).After-is_gravity ∙ c.if-is_temperature-is_gravity.false)

@@ -1,54 +1,29 @@
 -- `numerals::read_number` meets its contract. The loop's invariant: the digits left go on from the value so far to the whole number.
-use mathlib.Core.Path.{◌≡◌, sym, ap, ◌∙◌}
-use mathlib.Core.Option.{none}
-use Prim.Native.Nat.{ℕ, ◌+◌, ◌*◌, ◌≤◌, ◌<◌}
-use native.Mathlib.Omega.{arith}
-use lib.ListN.{get_or, drop}
-use Rattle.numerals.specs.Numbers.{digit_of, go_on, whole_of, up_to, number_of, told}
-use Rattle.numerals.proofs.Numbers.{no_digit, one_digit, no_more, too_large, small_enough, ill, well_led}
-use Rattle.numerals.proofs.read_number.Goals.{Else-digit-gt9}
+use Rattle.std.proofs.Common.{arith, ◌≡◌, ◌<◌, ◌+◌, ◌*◌, sym, ap, ◌∙◌, None, drop, ℕ}
+use Rattle.numerals.specs.Numbers.{go_on, up_to, number_of}
+use Rattle.numerals.proofs.Numbers.{one_digit, too_large}
+use Rattle.numerals.proofs.read_number.Goals.{In_ok-digit}
 use Rattle.numerals.proofs.read_number.Goals as goal
 
 -- a digit goes on from the value so far
-stepped : (c : Else-digit-gt9) → whole_of c.args.word.now ≡ go_on (10 * c.loop-i.value + c.value_digit-digit.result) (drop (c.loop-i.i + 1) c.args.word.now)
-stepped c =
-    let l = c.loop-i in
-    let w = c.args.word.now in
-    let d = c.value_digit-digit.ensures.0 in
-    let h : digit_of (get_or w l.i 0) ≤ 9 = omega arith in
-    l.invariant.1.1 ∙ one_digit l.value w l.i (omega arith) h ∙ ap (λ (n : ℕ). go_on (10 * l.value + n) (drop (l.i + 1) w)) (sym d)
+stepped : (c : In_ok-digit) → number_of c.args.most c.args.word.now ≡ up_to c.args.most (go_on (10 * c.loop-byte.value + c.in_ok-digit.digit) (drop (c.loop-byte.byte-index + 1) c.args.word.now))
+stepped c = let l = c.loop-byte in
+    l.invariant ∙ ap (up_to c.args.most) (one_digit l.value c.in_ok-digit.digit c.args.word.now l.byte-index (omega arith) (sym c.value_digit.ensures ∙ c.in_ok-digit.was))
 
 -- and passes the most that the operand holds
-passed : (c : Else-digit-gt9) → c.args.most < 10 * c.loop-i.value + c.value_digit-digit.result → none ≡ number_of c.args.most c.args.word.now
-unfolding number_of
-passed c h = let a = c.args in sym (ap (up_to a.most) (stepped c) ∙ too_large a.most _ (drop (c.loop-i.i + 1) a.word.now) h)
+passed : (c : In_ok-digit) → c.args.most < 10 * c.loop-byte.value + c.in_ok-digit.digit → None ≡ number_of c.args.most c.args.word.now
+passed c h = sym (stepped c ∙ too_large c.args.most _ (drop (c.loop-byte.byte-index + 1) c.args.word.now) h)
 
-pub returns-then-is_ill_led : goal.returns-then-is_ill_led
-unfolding told
-returns-then-is_ill_led c = let a = c.args in sym (ill a.most a.word.now (sym c.is_ill_led.ensures ∙ c.if-is_ill_led.true))
+pub returns-in_err-checked_mul : goal.returns-in_err-checked_mul
+returns-in_err-checked_mul c = c.from_residual-in_err-checked_mul.ensures ∙ passed (goal.at.returns-in_err-checked_mul c).In_ok-digit (omega (arith, c.in_err-checked_mul.ensures))
 
-pub loop-i-init : goal.loop-i-init
-loop-i-init c = let a = c.args in (omega arith, (omega arith, well_led a.word.now (sym c.is_ill_led.ensures ∙ c.if-is_ill_led.false)))
+pub returns-in_err-value : goal.returns-in_err-value
+returns-in_err-value c = c.from_residual-in_err-value.ensures ∙ passed (goal.at.returns-in_err-value c).In_ok-digit (omega (arith, c.in_err-value.ensures, c.in_ok-checked_mul.ensures))
 
-pub returns-then-digit-gt9 : goal.returns-then-digit-gt9
-unfolding told number_of up_to
-returns-then-digit-gt9 c = let l = c.loop-i in
-    let a = c.args in
-    let w = a.word.now in
-    let d = c.value_digit-digit.ensures.0 in
-    let h : 9 < digit_of (get_or w l.i 0) = omega arith in sym (ap (up_to a.most) (l.invariant.1.1 ∙ no_digit l.value w l.i (omega arith) h))
+pub loop-byte-preserved : goal.loop-byte-preserved
+loop-byte-preserved c = let e : 10 * c.loop-byte.value + c.in_ok-digit.digit ≡ c.in_ok-value.value = omega (arith, c.in_ok-value.ensures, c.in_ok-checked_mul.ensures) in
+    stepped (goal.at.loop-byte-preserved c).In_ok-digit ∙ ap (λ (n : ℕ). up_to c.args.most (go_on n (drop (c.loop-byte.byte-index + 1) c.args.word.now))) e
 
 pub returns-then-most-value : goal.returns-then-most-value
-unfolding told
-returns-then-most-value c = passed (goal.at.returns-then-most-value c).Else-digit-gt9 (omega arith)
-
-pub returns-then-most-value-2 : goal.returns-then-most-value-2
-unfolding told
-returns-then-most-value-2 c = passed (goal.at.returns-then-most-value-2 c).Else-digit-gt9 (omega arith)
-
-pub loop-i-preserved : goal.loop-i-preserved
-loop-i-preserved c = (omega arith, (omega arith, stepped (goal.at.loop-i-preserved c).Else-digit-gt9))
-
-pub returns : goal.returns
-unfolding told number_of
-returns c = let l = c.loop-i in let a = c.args in sym (ap (up_to a.most) (l.invariant.1.1 ∙ no_more l.value a.word.now l.i (omega arith)) ∙ small_enough a.most l.value (omega arith))
+returns-then-most-value c = let l = c.loop-byte in
+    sym (l.invariant ∙ too_large c.args.most l.value (drop l.byte-index c.args.word.now) c.if-most-value.true)

@@ -1,48 +1,54 @@
--- `octets::are_zero` meets its contract. The loop's invariant: what is asked is what is left of the search at i.
-use mathlib.Core.Path.{◌≡◌, refl, sym, ◌∙◌}
-use mathlib.Core.Bool.{true, false}
+-- `octets::are_zero` meets its contract: what is asked of bytes past the end holds.
+use mathlib.Core.Path.{◌≡◌, refl, sym, ◌∙◌, ap}
+use mathlib.Core.Bool.{Bool, true, false}
+use mathlib.Core.Logic.{by_cases}
 use mathlib.Core.List.{List}
-use Prim.Native.Nat.{ℕ, ◌-◌, ◌≤◌}
+use Prim.Native.Nat.{ℕ, ◌+◌, ◌-◌, ◌<◌, min}
+use native.Mathlib.Decide.{dec_lt}
 use native.Mathlib.Omega.{arith}
-use borrow.Author.Tests.{eq-eqb, ne_eqb}
-use lib.ListN.{length, get_or, get_or-eq_default}
-use Rattle.octets.specs.FirstToLast.{holds_all}
-use Rattle.octets.specs.Octets.{is_zero_at, zero_between}
-use Rattle.octets.proofs.FirstToLast.{tests, next, done, nowhere, all_hit}
+use borrow.Author.Tests.{tests, le-leb}
+use lib.ListN.{length, get_or, take, drop, get_or-eq_default, length-drop}
+use lib.Seq.{length-take-le, get_or-take, get_or-drop}
+use Rattle.std.proofs.Common.{rules}
+use Rattle.std.specs.Bool.{MatchBool}
+use Rattle.std.specs.List.{AllWithin, HoldsAt}
+use Rattle.std.proofs.lemmas.Iterator.{cases_from_all, YieldsList-from_slice}
+use Rattle.octets.specs.Octets.{zero_between}
+use Rattle.octets.proofs.Laws.{zero_each, zero_all}
 use Rattle.octets.proofs.are_zero.Goals as goal
 
-zero-here : (s : List ℕ) (i : ℕ) → get_or s i 0 ≡ 0 → is_zero_at s i ≡ true
-unfolding is_zero_at
-zero-here s i is = eq-eqb (get_or s i 0) 0 is
+-- the bytes from a on that the list has, up to but not including b
+abbrev judged : List ℕ → ℕ → ℕ → List ℕ
+judged s a b = take (min b (length s) - a) (drop a s)
 
--- past the end every byte is zero
-past_end : (s : List ℕ) (n i : ℕ) → length s ≤ i → holds_all (is_zero_at s) n i ≡ true
-past_end s n i h = nowhere tests (is_zero_at s) n i (λ j l _. zero-here s j (get_or-eq_default s 0 (omega arith)))
+judged_length : (s : List ℕ) (a b : ℕ) → length (judged s a b) ≡ min b (length s) - a
+judged_length s a b = length-take-le _ (drop a s) (simp length-drop (omega arith))
 
-not-zero-here : (s : List ℕ) (i : ℕ) → (get_or s i 0 ≡ 0 → ⊥) → is_zero_at s i ≡ false
-unfolding is_zero_at
-not-zero-here s i differs = ne_eqb (get_or s i 0) 0 differs
+judged_byte : (s : List ℕ) (a b i : ℕ) → i < length (judged s a b) → get_or (judged s a b) i 0 ≡ get_or s (a + i) 0
+judged_byte s a b i h = get_or-take _ (drop a s) i 0 (omega (arith, judged_length s a b)) ∙ get_or-drop a s i 0
 
-pub loop-i-init : goal.loop-i-init
-unfolding zero_between
-loop-i-init c = refl
+by-judged : (s : List ℕ) (a b : ℕ) (all : Bool) → MatchBool all (AllWithin (λ x. x ≡ 0) (judged s a b) 0 (length (judged s a b))) ((k : ℕ) × (k < length (judged s a b)) × HoldsAt (λ x. x ≡ 0 → ⊥) (judged s a b) k)
+    → all ≡ zero_between s a b
+by-judged s a b true each =
+    sym (zero_all s a b (λ k low high.
+    by_cases (dec_lt k (length s))
+    (λ inside.
+    let here : k - a < length (judged s a b) = omega (arith, judged_length s a b) in
+    let at : k ≡ a + (k - a) = omega arith in
+    ap (λ (n : ℕ). get_or s n 0) at ∙ sym (judged_byte s a b (k - a) here) ∙ each (k - a) 0 (omega arith) here)
+    (λ past. get_or-eq_default s 0 (omega arith))))
+by-judged s a b false some = by-test (zero_between s a b) refl
+  where
+    by-test : (zeros : Bool) → zero_between s a b ≡ zeros → false ≡ zero_between s a b
+    by-test false is = sym is
+    by-test true is = absurd (some.2 0 (judged_byte s a b some.0 some.1 ∙ zero_each s a b is (a + some.0) (omega arith) (omega (arith, some.1, judged_length s a b))))
 
-pub returns-then-b-i : goal.returns-then-b-i
-returns-then-b-i c = let l = c.loop-i in
-    let a = c.args in
-    sym (done tests (is_zero_at a.s.now) a.b l.i c.if-b-i.true l.invariant)
+pub returns-then-end-a : goal.returns-then-end-a
+returns-then-end-a c = let a = c.args in
+    let end = c.min-end.ensures in
+    le-leb _ _ c.if-end-a.true ∙ sym (zero_all a.s.now a.a a.b (λ k low high. get_or-eq_default a.s.now 0 (omega arith)))
 
-pub returns-then-s-i-ne0 : goal.returns-then-s-i-ne0
-returns-then-s-i-ne0 c = let l = c.loop-i in
-    let a = c.args in
-    sym (all_hit (is_zero_at a.s.now) a.b l.i c.if-b-i.false (not-zero-here a.s.now l.i c.if-s-i-ne0.true) l.invariant)
-
-pub loop-i-preserved : goal.loop-i-preserved
-loop-i-preserved c = let l = c.loop-i in
-    let a = c.args in
-    next tests (is_zero_at a.s.now) a.b l.i c.if-b-i.false (zero-here a.s.now l.i c.if-s-i-ne0.false) l.invariant
-
-pub returns : goal.returns
-returns c = let l = c.loop-i in
-    let a = c.args in
-    sym (l.invariant ∙ past_end a.s.now (a.b - l.i) l.i c.loop-i-test.false)
+pub returns-else-end-a : goal.returns-else-end-a
+returns-else-end-a c = let a = c.args in
+    by-judged a.s.now a.a a.b c.all.result
+    (cases_from_all _ _ _ (λ x. x ≡ 0) (λ x. x ≡ 0 → ⊥) c.all.ensures.ran (YieldsList-from_slice (judged a.s.now a.a a.b) (c.iter.ensures.rest ∙ ap (λ (end : ℕ). take (end - a.a) (drop a.a a.s.now)) c.min-end.ensures)) (λ x q k. search (rules, tests)) (λ x q k. search (rules, tests)))

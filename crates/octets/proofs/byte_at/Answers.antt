@@ -1,13 +1,12 @@
 -- `octets::byte_at` meets its contract: past the end a list reads as 0.
-use mathlib.Core.Path.{refl, sym}
-use lib.ListN.{get_or-eq_default}
+use Rattle.std.specs.Prelude.{Option}
+use mathlib.Core.Path.{◌∙◌, ap}
+use Prim.Native.Nat.{ℕ}
+use native.Mathlib.Omega.{arith}
+use Rattle.std.specs.Option.{unwrap_or}
 use Rattle.octets.specs.Octets.{byte_at}
 use Rattle.octets.proofs.byte_at.Goals as goal
 
-pub returns-then-at-s : goal.returns-then-at-s
+pub returns : goal.returns
 unfolding byte_at
-returns-then-at-s c = refl
-
-pub returns-else-at-s : goal.returns-else-at-s
-unfolding byte_at
-returns-else-at-s c = sym (get_or-eq_default c.args.s.now 0 c.if-at-s.false)
+returns c = c.unwrap_or.ensures ∙ ap (λ (read : Option ℕ). unwrap_or read 0) c.copied.ensures ∙ c.get.ensures.lookup.4 (omega arith) 0

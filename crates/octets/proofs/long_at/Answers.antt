@@ -1,15 +1,9 @@
--- `octets::long_at` meets its contract: four bytes are two words.
-use mathlib.Core.Path.{sym}
+-- `octets::long_at` meets its contract: the number that its bytes spell.
+use mathlib.Core.Path.{◌∙◌}
 use Rattle.octets.specs.Octets.{long_at}
-use Rattle.octets.proofs.Laws.{number_past, long_is}
+use Rattle.octets.proofs.Laws.{spelled_4, number_moved}
 use Rattle.octets.proofs.long_at.Goals as goal
 
-pub returns-then-s-at : goal.returns-then-s-at
-unfolding long_at
-returns-then-s-at c = sym (number_past 4 c.args.s.now c.args.at c.if-s-at.true)
-
 pub returns : goal.returns
-returns c = let a = c.args in
-    let low = c.word_at-low.ensures in
-    let high = c.word_at-high.ensures in
-    rw (low, high) (sym (long_is a.s.now a.at))
+unfolding long_at
+returns c = c.from_le_bytes.ensures ∙ spelled_4 _ ∙ number_moved 4 _ c.args.s.now c.args.at c.bytes_at.ensures

@@ -1,15 +1,9 @@
--- `octets::quad_at` meets its contract: eight bytes are two fours.
-use mathlib.Core.Path.{sym}
+-- `octets::quad_at` meets its contract: the number that its bytes spell.
+use mathlib.Core.Path.{◌∙◌}
 use Rattle.octets.specs.Octets.{quad_at}
-use Rattle.octets.proofs.Laws.{number_past, quad_is}
+use Rattle.octets.proofs.Laws.{spelled_8, number_moved}
 use Rattle.octets.proofs.quad_at.Goals as goal
 
-pub returns-then-s-at : goal.returns-then-s-at
-unfolding quad_at
-returns-then-s-at c = sym (number_past 8 c.args.s.now c.args.at c.if-s-at.true)
-
 pub returns : goal.returns
-returns c = let a = c.args in
-    let low = c.long_at-low.ensures in
-    let high = c.long_at-high.ensures in
-    rw (low, high) (sym (quad_is a.s.now a.at))
+unfolding quad_at
+returns c = c.from_le_bytes.ensures ∙ spelled_8 _ ∙ number_moved 8 _ c.args.s.now c.args.at c.bytes_at.ensures

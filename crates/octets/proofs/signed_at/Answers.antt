@@ -1,28 +1,29 @@
 -- `octets::signed_at` meets its contract: the machine's two's complement is the paper's signed word.
-use mathlib.Core.Path.{◌≡◌, sym, ◌∙◌, ap}
-use Prim.Native.Nat.{ℕ, suc, ◌-◌, ◌≤◌, ◌<◌}
+use mathlib.Core.Path.{◌≡◌, ◌∙◌, ap}
+use mathlib.Core.Logic.{by_cases}
+use Prim.Native.Nat.{ℕ, suc, ◌-◌, ◌<◌}
+use native.Mathlib.Decide.{dec_lt}
 use native.Mathlib.Omega.{arith}
+use Rattle.std.proofs.Common.{rules}
 use borrow.Author.Tests.{lt-ltb, le-ltb}
+use lib.IntN.{ℤ}
 use mir.Syntax.{w16}
-use mir.Val.{to_z}
+use mir.Val.{to_z, of_z}
+use Rattle.std.proofs.Math.Facts.{of_z-to_z}
 use Rattle.octets.specs.Octets.{signed_at, signed_of}
-use Rattle.octets.proofs.Laws.{signed_low, signed_high}
 use Rattle.octets.proofs.signed_at.Goals as goal
 
-machine-low : (x : ℕ) → x < 32768 → to_z w16 x ≡ signed_of x
-machine-low x h = rw (lt-ltb x 32768 h) (sym (signed_low x h))
+machine : (x : ℕ) → x < 65536 → to_z w16 x ≡ signed_of x
+unfolding signed_of
+machine x small =
+    by_cases (dec_lt x 32768)
+    (λ low. rw (lt-ltb x 32768 low))
+    (λ high.
+    let less : 65536 - x ≡ suc (65536 - suc x) = omega arith in
+    rw (le-ltb x 32768 (omega arith), less))
 
-machine-high : (x : ℕ) → 32768 ≤ x → x < 65536 → to_z w16 (65535 - (65535 - x)) ≡ signed_of x
-machine-high x h l =
-    let back : 65535 - (65535 - x) ≡ x = omega arith in
-    let less : 65536 - suc x ≡ 65535 - x = omega arith in
-    rw (back, le-ltb x 32768 h, less) (sym (signed_high x h l))
-
-pub returns-then-x-lt32768 : goal.returns-then-x-lt32768
+pub returns : goal.returns
 unfolding signed_at
-returns-then-x-lt32768 c = machine-low c.word_at-x.result c.if-x-lt32768.true ∙ ap signed_of c.word_at-x.ensures
-
-pub returns-else-x-lt32768 : goal.returns-else-x-lt32768
-unfolding signed_at
-returns-else-x-lt32768 c = let x = c.word_at-x in
-    machine-high x.result c.if-x-lt32768.false (omega arith) ∙ ap signed_of x.ensures
+returns c = let x = c.word_at in
+    let small : x.result < 65536 = omega arith in
+    ap (λ (z : ℤ). to_z w16 (of_z w16 z)) c.cast_signed.ensures ∙ ap (to_z w16) (of_z-to_z {w = w16} {n = x.result} (search rules)) ∙ machine x.result small ∙ ap signed_of x.ensures

@@ -1,8 +1,7 @@
--- `octets::word_bytes` meets its contract: the array's list is the number's two bytes.
-use mathlib.Core.Path.{refl}
-use Rattle.octets.specs.Octets.{bytes_of}
+-- `octets::word_bytes` meets its contract: the array's list is the number's bytes.
+use mathlib.Core.Path.{◌∙◌}
+use Rattle.octets.proofs.Laws.{lowest_first}
 use Rattle.octets.proofs.word_bytes.Goals as goal
 
 pub returns : goal.returns
-unfolding bytes_of
-returns c = refl
+returns c = c.to_le_bytes.ensures ∙ lowest_first 2 c.args.x

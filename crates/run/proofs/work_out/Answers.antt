@@ -1,21 +1,20 @@
 -- `run::work_out` meets its contract: what is given is judged first, and then the figures.
-use mathlib.Core.Path.{ap, sym, ◌∙◌}
-use Rattle.refusals.specs.Told.{Fault, unless}
-use Rattle.refusals.specs.Verdict.{fault_of}
+use Rattle.std.proofs.Common.{◌≡◌, sym, arith}
+use Rattle.std.proofs.lemmas.Grind.{common_steps}
+use Rattle.refusals.specs.Answered.{fault_of, told}
 use Rattle.run.proofs.Laws.{given_fits}
-use Rattle.run.specs.Answers.{figures_told, worked_of}
+use Rattle.run.specs.Answers.{given_fault, figures_told, worked_of}
 use Rattle.run.proofs.work_out.Goals as goal
 
+pub returns-in_err-judge : goal.returns-in_err-judge
+unfolding worked_of
+returns-in_err-judge c = let given : fault_of c.judge.result ≡ given_fault c.args.prover c.args.k c.args.run c.args.at = c.judge.ensures in
+    grind (arith, common_steps, given)
+
 pub judge_figures-requires : goal.judge_figures-requires
-judge_figures-requires c = given_fits _ _ _ _ (sym c.judge-verdict.ensures ∙ ap fault_of c.in-Fine.is)
+judge_figures-requires c = given_fits _ _ _ _ (sym c.in_ok-judge.ensures)
 
-pub returns-in-Fine : goal.returns-in-Fine
+pub returns : goal.returns
 unfolding worked_of
-returns-in-Fine c = let a = c.args in
-    c.judge_figures.ensures
-    ∙ sym (ap (λ (f : Fault). unless f (figures_told a.prover a.k a.run a.at)) (sym c.judge-verdict.ensures ∙ ap fault_of c.in-Fine.is))
-
-pub returns-in-Refused : goal.returns-in-Refused
-unfolding worked_of
-returns-in-Refused c = let a = c.args in
-    sym (ap (λ (f : Fault). unless f (figures_told a.prover a.k a.run a.at)) (sym c.judge-verdict.ensures ∙ ap fault_of c.in-Refused.is))
+returns c = let figures : told c.judge_figures.result ≡ figures_told c.args.prover c.args.k c.args.run c.args.at = c.judge_figures.ensures in
+    grind (arith, common_steps, figures)

@@ -1,19 +1,21 @@
--- `words::word` meets its contract. The loop's invariant: the word is as many words on from where the loop stands as are left to pass.
-use mathlib.Core.Path.{◌≡◌, sym, ap, ◌∙◌}
-use Prim.Native.Nat.{ℕ, ◌+◌, ◌-◌}
-use native.Mathlib.Omega.{arith}
-use lib.ListN.{length, take, drop}
-use Rattle.words.specs.Words.{first_word, word_of}
-use Rattle.words.proofs.Words.{taken, word_step, word_last}
+-- `words::word` meets its contract: the part of its number.
+use Rattle.std.proofs.Common.{rules, tests, ◌≡◌, ap, ◌∙◌, List, [], ℕ, Bor, Option, Some, None}
+use Rattle.std.specs.Option.{option_map, unwrap_or}
+use Rattle.std.specs.List.{slice_split}
+use Rattle.std.proofs.lemmas.Option.{unwrap_or-slice_get}
+use Rattle.std.proofs.lemmas.Iterator.Consumers.{nth_from_yields_List}
+use Rattle.std.proofs.lemmas.Iterator.Splits.{YieldsList-from_slice_split}
+use Rattle.words.proofs.Words.{is_space, word_is}
 use Rattle.words.proofs.word.Goals as goal
 
-pub loop-i-preserved : goal.loop-i-preserved
-loop-i-preserved c = let l = c.loop-i in let a = c.args in
-    (l.invariant.0 ∙ word_step a.n l.i (drop l.at a.s.now) (omega arith) ∙ ap (word_of (a.n - (l.i + 1))) (sym c.pass_word-at.ensures.0), omega arith)
+-- what is lent where there is no part holds no bytes
+read : (r : Option (Bor (List ℕ))) (d : Bor (List ℕ)) {w : Bor (List ℕ)} → w ≡ unwrap_or r d → w.now ≡ unwrap_or (option_map (λ p. p.now) r) d.now
+read None d e = ap (λ (w : Bor (List ℕ)). w.now) e
+read (Some p) d e = ap (λ (w : Bor (List ℕ)). w.now) e
 
 pub returns : goal.returns
-returns c = let l = c.loop-i in
-    let a = c.args in
-    let t = drop l.at a.s.now in
-    let k : c.end_word-end.result - l.at ≡ length (first_word t) = omega (arith, c.end_word-end.ensures.0) in
-    ap (λ (m : ℕ). take m t) k ∙ taken t ∙ sym (word_last a.n l.i t (omega arith)) ∙ sym l.invariant.0
+returns c = let s = c.args.s.now in
+    read c.nth.result _ c.unwrap_or.ensures
+    ∙ ap (λ (w : Option (List ℕ)). unwrap_or w []) (nth_from_yields_List _ _ c.args.n c.nth.ensures.ran (YieldsList-from_slice_split _ is_space s c.split.ensures.rest c.split.ensures.done c.split.ensures.closure (λ x b q k. search (rules, tests))))
+    ∙ unwrap_or-slice_get (slice_split is_space s) c.args.n []
+    ∙ word_is s c.args.n

@@ -1,16 +1,11 @@
--- `api::corrections::flatten` meets its contract: each case of the answer is told as it is flattened.
-use mathlib.Core.Path.{ap, sym, ◌∙◌}
-use Rattle.refusals.specs.declared.GivenBack.{GivenBack}
-use Rattle.factors.specs.Answers.{told}
-use Rattle.factors.specs.declared.Factor.{Factor}
+-- `api::corrections::flatten` meets its contract: the number, the record and the values that the answer tells.
+use Rattle.std.proofs.Common.{◌∙◌}
 use Rattle.api.specs.Flat.{flat_factor, factor_with}
+use Rattle.api.proofs.Values.{values_told}
 use Rattle.api.proofs.corrections.flatten.Goals as goal
 
-pub returns-in-Value : goal.returns-in-Value
+pub returns : goal.returns
 unfolding flat_factor
-returns-in-Value c = sym (ap (λ (a : Factor). flat_factor (told a)) c.in-Value.is)
-
-pub returns-in-Refused : goal.returns-in-Refused
-unfolding flat_factor
-returns-in-Refused c = ap (λ (g : GivenBack). factor_with g.number g.at 0) c.give_back-given.ensures
-    ∙ sym (ap (λ (a : Factor). flat_factor (told a)) c.in-Refused.is)
+returns c =
+    let given = c.give_back-given.ensures in
+    λ i. factor_with (given.number i) (given.record i) ((c.unwrap_or.ensures ∙ values_told 0 c.args.factor) i)

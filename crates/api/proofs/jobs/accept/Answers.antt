@@ -3,7 +3,6 @@ use mathlib.Core.Path.{◌≡◌, ap, sym, ◌∙◌}
 use Prim.Native.Nat.{ℕ, ◌*◌, ◌-◌}
 use native.Mathlib.Omega.{arith}
 use Rattle.factors.specs.declared.Prover.{Prover}
-use Rattle.report.specs.Judged.{told}
 use Rattle.proving.specs.Job.{job_of}
 use Rattle.proving.proofs.Accepted.{same_number, Begins, done_begins}
 use Rattle.api.specs.Flat.{part_of}
@@ -11,6 +10,7 @@ use Rattle.api.specs.Given.{prover_by}
 use Rattle.api.proofs.jobs.accept.Lts.View as view
 use Rattle.api.proofs.jobs.accept.Goals.{After-struct_known-1, After-unread-2-1}
 use Rattle.api.proofs.jobs.accept.Goals as goal
+use Rattle.refusals.specs.Answered.{told}
 
 job : (c : After-unread-2-1) → told c.prove-job.result ≡ job_of 1 (prover_by c.args.prover) c.args.k c.args.limit c.args.form c.args.records.now 32
 job c =
@@ -22,20 +22,20 @@ asked : ◌≡◌ {A = ℕ} 1 0 → ⊥
 asked is = omega arith
 
 begun : (c : After-struct_known-1) → Begins 1 (prover_by c.args.prover) c.args.k
-    c.args.limit c.args.form c.args.records.now asked c.in-Fields.report
+    c.args.limit c.args.form c.args.records.now asked c.in-Ok.report
 begun c =
     let a = c.args in
-    done_begins 1 (prover_by a.prover) a.k a.limit a.form a.records.now asked (sym (job (view.up-After-unread-2-1 _ _ _ _ c.before.before.before)) ∙ ap told c.in-Fields.is)
+    done_begins 1 (prover_by a.prover) a.k a.limit a.form a.records.now asked (sym (job (view.up-After-unread-2-1 _ _ _ _ c.before.before.before)) ∙ ap told c.in-Ok.is)
 
-place : (c : After-struct_known-1) → c.in-Fields.report.first - 1 ≡ (begun c).place
+place : (c : After-struct_known-1) → c.in-Ok.report.first - 1 ≡ (begun c).place
 place c = omega (arith, (begun c).first)
 
 pub overflow_sub-result : goal.overflow_sub-result
 overflow_sub-result c = omega (arith, (begun (goal.at.overflow_sub-result c).After-struct_known-1).first)
 
-pub returns-in-Fields : goal.returns-in-Fields
-returns-in-Fields c = (λ i. record { start = c.size-size.ensures i * place (goal.at.returns-in-Fields c).After-struct_known-1 i; length = 5 * c.size-size.ensures i }) ∙ sym (ap (part_of c.args.form) (begun (goal.at.returns-in-Fields c).After-struct_known-1).found)
+pub returns-in-Ok : goal.returns-in-Ok
+returns-in-Ok c = (λ i. record { start = c.size-size.ensures i * place (goal.at.returns-in-Ok c).After-struct_known-1 i; length = 5 * c.size-size.ensures i }) ∙ sym (ap (part_of c.args.form) (begun (goal.at.returns-in-Ok c).After-struct_known-1).found)
 
-pub returns-in-Refused : goal.returns-in-Refused
-returns-in-Refused c = let a = c.args in
-    sym (ap (part_of a.form) (same_number 1 (prover_by a.prover) a.k a.limit a.form a.records.now asked (sym (job (goal.at.returns-in-Refused c).After-unread-2-1) ∙ ap told c.in-Refused.is)))
+pub returns-in-Err : goal.returns-in-Err
+returns-in-Err c = let a = c.args in
+    sym (ap (part_of a.form) (same_number 1 (prover_by a.prover) a.k a.limit a.form a.records.now asked (sym (job (goal.at.returns-in-Err c).After-unread-2-1) ∙ ap told c.in-Err.is)))

@@ -1,20 +1,14 @@
--- `api::lookups::flatten` meets its contract: each case of the answer is flattened as it is told.
-use mathlib.Core.Path.{ap, sym, ◌∙◌}
-use Rattle.refusals.specs.declared.GivenBack.{GivenBack}
-use Rattle.ranges.proofs.Counted.{passed_on}
-use Rattle.lookup.specs.Answers.{told}
-use Rattle.lookup.specs.declared.LookUp.{LookUp}
+-- `api::lookups::flatten` meets its contract: the number, the record and the values that the answer tells.
+use Rattle.std.proofs.Common.{rules, w16, to_z, of_z, ◌≡◌, ◌∙◌}
 use Rattle.api.specs.Flat.{flat_entry, entry_with, no_entry}
+use Rattle.api.proofs.Values.{values_told}
 use Rattle.api.proofs.lookups.flatten.Goals as goal
 
-pub returns-in-Found : goal.returns-in-Found
+pub returns : goal.returns
 unfolding flat_entry
-returns-in-Found c = let entry = c.in-Found.entry in
-    let temperature = passed_on entry.temperature c.struct_told-1.given.0.1 in
-    (λ i. entry_with 0 0 (record { temperature = temperature i; gravity = entry.gravity; compressibility = entry.compressibility }))
-    ∙ sym (ap (λ (a : LookUp). flat_entry (told a)) c.in-Found.is)
-
-pub returns-in-Refused : goal.returns-in-Refused
-unfolding flat_entry
-returns-in-Refused c = ap (λ (g : GivenBack). entry_with g.number g.at no_entry) c.give_back-given.ensures
-    ∙ sym (ap (λ (a : LookUp). flat_entry (told a)) c.in-Refused.is)
+returns c =
+    let given = c.give_back-given.ensures in
+    let entry = c.unwrap_or-entry.result in
+    let back : to_z w16 (of_z w16 entry.temperature) ≡ entry.temperature = search rules in
+    (λ i. entry_with c.give_back-given.result.number c.give_back-given.result.at (record { temperature = back i; gravity = entry.gravity; compressibility = entry.compressibility }))
+    ∙ (λ i. entry_with (given.number i) (given.record i) ((c.unwrap_or-entry.ensures ∙ values_told no_entry c.args.found) i))

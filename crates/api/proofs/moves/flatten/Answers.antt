@@ -1,16 +1,11 @@
--- `api::moves::flatten` meets its contract: each case of the answer is flattened as it is told.
-use mathlib.Core.Path.{ap, sym, ◌∙◌}
-use Rattle.refusals.specs.declared.GivenBack.{GivenBack}
-use Rattle.moving.specs.Answers.{told}
-use Rattle.moving.specs.declared.Moved.{Moved}
+-- `api::moves::flatten` meets its contract: the number, the record and the values that the answer tells.
+use Rattle.std.proofs.Common.{◌∙◌}
 use Rattle.api.specs.Flat.{flat_moved, moved_with}
+use Rattle.api.proofs.Values.{values_told}
 use Rattle.api.proofs.moves.flatten.Goals as goal
 
-pub returns-in-Records : goal.returns-in-Records
+pub returns : goal.returns
 unfolding flat_moved
-returns-in-Records c = sym (ap (λ (a : Moved). flat_moved (told a)) c.in-Records.is)
-
-pub returns-in-Refused : goal.returns-in-Refused
-unfolding flat_moved
-returns-in-Refused c = ap (λ (g : GivenBack). moved_with g.number g.at 0) c.give_back-given.ensures
-    ∙ sym (ap (λ (a : Moved). flat_moved (told a)) c.in-Refused.is)
+returns c =
+    let given = c.give_back-given.ensures in
+    λ i. moved_with (given.number i) (given.record i) ((c.unwrap_or.ensures ∙ values_told 0 c.args.moved) i)

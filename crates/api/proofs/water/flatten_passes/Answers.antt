@@ -1,15 +1,26 @@
--- `api::water::flatten_passes` meets its contract: each case of the answer is flattened as it is told.
-use mathlib.Core.Path.{ap, sym, ◌∙◌}
-use Rattle.refusals.specs.declared.GivenBack.{GivenBack}
-use Rattle.draw.specs.Answers.{told_count}
-use Rattle.draw.specs.declared.Counted.{Counted}
-use Rattle.api.specs.Flat.{flat_passes, passes_with}
+-- `api::water::flatten_passes` meets its contract: the number, the record, the count and the volumes that the answer tells.
+use Rattle.std.specs.Prelude.{Result, Ok, Err}
+use Rattle.std.proofs.Common.{◌≡◌, refl, [], ◌∙◌}
+use Rattle.std.specs.Result.{result_unwrap_or}
+use Rattle.refusals.specs.Answered.{told}
+use Rattle.refusals.specs.declared.Refusal.{Refusal}
+use Rattle.octets.specs.Records.{zeros_after}
+use Rattle.draw.specs.Volumes.{counted, held}
+use Rattle.draw.specs.declared.DrawVolumes.{DrawVolumes}
+use Rattle.api.specs.Flat.{number_in, record_in, flat_passes, passes_with}
 use Rattle.api.proofs.water.flatten_passes.Goals as goal
 
-pub returns-in-Volumes : goal.returns-in-Volumes
-unfolding flat_passes
-returns-in-Volumes c = sym (ap (λ (a : Counted). flat_passes (told_count a) c.args.volumes) c.in-Volumes.is)
+abbrev no_volumes : DrawVolumes
+no_volumes = record { count = 0; volumes = zeros_after 20 [] }
 
-pub returns-in-Refused : goal.returns-in-Refused
+found_told : (answer : Result DrawVolumes Refusal) → (λ (found : DrawVolumes). passes_with (number_in (told answer)) (record_in (told answer)) found.count found.volumes) (result_unwrap_or answer no_volumes) ≡ flat_passes (counted (told answer)) (held (told answer))
 unfolding flat_passes
-returns-in-Refused c = ap (λ (g : GivenBack). passes_with g.number g.at 0 c.args.volumes) c.give_back-given.ensures ∙ sym (ap (λ (a : Counted). flat_passes (told_count a) c.args.volumes) c.in-Refused.is)
+found_told (Ok found) = refl
+found_told (Err refusal) = refl
+
+pub returns : goal.returns
+unfolding zeros_after
+returns c =
+    let given = c.give_back-given.ensures in
+    (λ i. passes_with (given.number i) (given.record i) (c.unwrap_or-found.ensures i).count (c.unwrap_or-found.ensures i).volumes)
+    ∙ found_told c.args.answer

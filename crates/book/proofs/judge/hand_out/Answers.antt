@@ -1,49 +1,42 @@
--- `book::judge::hand_out` meets its contract. The loop's invariant: the shippers of the turns before `turn` have none.
--- The measure is the turns left.
-use mathlib.Core.Path.{◌≡◌, sym, subst}
+-- `book::judge::hand_out` meets its contract: the first turn at which somebody waits is the next turn, and where there is none nobody waits.
+use mathlib.Core.Path.{◌≡◌, sym, ap, subst, ◌∙◌}
+use mathlib.Core.Bool.{false}
 use mathlib.Core.Logic.{by_cases}
-use Prim.Native.Nat.{ℕ, ◌+◌, ◌≤◌, ◌%◌}
+use mathlib.Core.List.{List}
+use Prim.Native.Nat.{ℕ, ◌+◌, ◌%◌}
 use native.Mathlib.Decide.{dec_lt}
 use native.Mathlib.Omega.{arith}
+use lib.Dec.{ltb}
+use lib.ListN.{length, get_or}
 use Rattle.refusals.specs.Told.{done}
-use Rattle.book.specs.Calls.{of_turn, oldest_of, handed_out}
-use Rattle.book.specs.Figures.{shippers, line_at}
-use Rattle.book.proofs.Books.{SoundBook, sound_is, oldest_first}
+use Rattle.book.specs.Calls.{of_turn, oldest_of, handed_out, has_any}
+use Rattle.book.specs.Figures.{shippers, line_at, waiting_of, has}
+use Rattle.book.proofs.Books.{sound_is}
 use Rattle.book.proofs.Kept.{turn_is, turn_none}
-use Rattle.book.proofs.judge.hand_out.Goals.{Start}
+use Rattle.book.proofs.Waiting.{oldest, nobody}
 use Rattle.book.proofs.judge.hand_out.Goals as goal
 
-sound : (c : Start) → SoundBook c.args.book
-sound c = sound_is c.args.book c.requires
-
-pub loop-turn-init : goal.loop-turn-init
-loop-turn-init c = (omega arith, omega arith, λ j l h. absurd (omega arith))
-
 pub overflow_add-shipper : goal.overflow_add-shipper
-overflow_add-shipper c = let turn = (sound (goal.at.overflow_add-shipper c).Start).turn in omega arith
+overflow_add-shipper c = let turn = (sound_is c.args.book c.requires).turn in omega arith
 
-pub returns-then-line-gt0 : goal.returns-then-line-gt0
-unfolding line_at of_turn shippers handed_out oldest_of
-returns-then-line-gt0 c = let turn = c.loop-turn in
-    let b = c.args.book in
-    let any = c.if-line-gt0.true in
-    let oldest = sym (oldest_first b ((b.last + turn.turn) % 4) any) in
-    rw (turn_is b (sound (goal.at.returns-then-line-gt0 c).Start) turn.turn turn.invariant.0 (omega arith) any turn.invariant.2) (λ i. done (record { shipper = (b.last + turn.turn) % 4; number = oldest i }))
+pub returns-in-Some : goal.returns-in-Some
+unfolding line_at waiting_of has has_any of_turn shippers handed_out oldest_of
+returns-in-Some c =
+    let turn = c.loop-turn.turn in
+    let found = oldest c.waiting.result.now c.in-Some.field-0.now c.in-Some.ensures.value in
+    let any = ap (λ (xs : List ℕ). ltb 0 (length xs)) (sym c.waiting.ensures) ∙ found.0 in
+    let number = found.1 ∙ ap (λ (xs : List ℕ). get_or xs 0 0) c.waiting.ensures in
+    rw (turn_is c.args.book turn (omega arith) (omega arith) any c.loop-turn.invariant) (λ i. done (record { shipper = (c.args.book.last + turn) % 4; number = number i }))
 
 pub loop-turn-preserved : goal.loop-turn-preserved
-unfolding line_at of_turn shippers
-loop-turn-preserved c = let turn = c.loop-turn in
-    let b = c.args.book in (
-      omega arith,
-      omega arith,
-      λ j l h.
-          by_cases (dec_lt j turn.turn) (λ before. turn.invariant.2 j l before)
-          (λ not.
-          let same : turn.turn ≡ j = omega arith in
-          subst (λ (n : ℕ). (line_at b (of_turn b n)).count ≤ 0) same c.if-line-gt0.false),
-    )
+unfolding line_at waiting_of has has_any of_turn shippers
+loop-turn-preserved c = λ j l h.
+    let none = ap (λ (xs : List ℕ). ltb 0 (length xs)) (sym c.waiting.ensures) ∙ nobody c.waiting.result.now c.in_default.ensures.value in
+    by_cases (dec_lt j c.loop-turn.turn) (c.loop-turn.invariant j l)
+    (λ not.
+    let same : c.loop-turn.turn ≡ j = omega arith in
+    subst (λ (n : ℕ). has_any c.args.book n ≡ false) same none)
 
 pub returns : goal.returns
 unfolding handed_out
-returns c = let turn = c.loop-turn in
-    rw (turn_none c.args.book (sound (goal.at.returns c).Start) (λ j l h. turn.invariant.2 j l (omega arith)))
+returns c = rw (turn_none c.args.book (λ j l h. c.loop-turn.invariant j l (omega arith)))

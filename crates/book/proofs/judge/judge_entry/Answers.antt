@@ -1,42 +1,34 @@
 -- `book::judge::judge_entry` meets its contract: 23, 24 and 25 in their order.
-use mathlib.Core.Path.{◌≡◌}
+use mathlib.Core.Path.{sym, ap, ◌∙◌}
+use mathlib.Core.Bool.{Bool, ◌||◌, not}
+use mathlib.Core.List.{List}
 use Prim.Native.Nat.{ℕ}
-use Rattle.refusals.specs.Told.{fine}
-use Rattle.book.specs.Calls.{call_fault, has_room, entry_fault}
-use Rattle.book.specs.Figures.{over_shippers, reserve_in, ceiling_in, places, reserve, ceiling, commons, line_at, has}
-use Rattle.book.specs.declared.Book.{Book}
-use Rattle.book.proofs.Books.{has_count, lines_sound}
-use Rattle.book.proofs.Calls.{called}
+use lib.Dec.{ltb}
+use lib.ListN.{length, get_or}
+use Rattle.refusals.specs.Told.{demand}
+use Rattle.refusals.proofs.Laws.{or_else_next}
+use Rattle.octets.specs.Lists.{is_one_of}
+use Rattle.std.proofs.Common.{arith}
+use Rattle.std.proofs.lemmas.Grind.{common_steps}
+use Rattle.book.specs.Calls.{has_room, entry_fault}
+use Rattle.book.specs.Figures.{over_shippers, reserve_in, ceiling_in, places, reserve, ceiling, commons, line_at, waiting_of, has}
+use Rattle.book.proofs.Waiting.{contains_tells}
 use Rattle.book.proofs.judge.judge_entry.Goals as goal
 
-many : (book : Book) (s x : ℕ) → call_fault book s x ≡ fine → has book s ≡ (line_at book s).count
-many book s x told = let call = called book s x told in has_count book s (call.sound.lines s call.known)
+pub returns-in_err-demand : goal.returns-in_err-demand
+unfolding entry_fault waiting_of line_at
+returns-in_err-demand c = let told = c.contains.ensures.value ∙ contains_tells c.args.number c.waiting-waiting.result.now in grind (arith, common_steps)
 
-pub count_commons_used-used-requires : goal.count_commons_used-used-requires
-count_commons_used-used-requires c = let sound = (called c.args.book c.args.shipper c.args.number c.requires).sound in (sound.rules, lines_sound c.args.book sound.lines)
-
-pub count_commons-commons-requires : goal.count_commons-commons-requires
-count_commons-commons-requires c = (called c.args.book c.args.shipper c.args.number c.requires).sound.rules
-
-pub bounds-book-at : goal.bounds-book-at
-bounds-book-at c = (called c.args.book c.args.shipper c.args.number c.requires).known
-
-pub bounds-figures-at : goal.bounds-figures-at
-bounds-figures-at c = (called c.args.book c.args.shipper c.args.number c.requires).known
-
-pub bounds-figures-at-2 : goal.bounds-figures-at-2
-bounds-figures-at-2 c = (called c.args.book c.args.shipper c.args.number c.requires).known
+pub returns-in_err-demand-2 : goal.returns-in_err-demand-2
+unfolding entry_fault waiting_of line_at has ceiling ceiling_in
+returns-in_err-demand-2 c = let told = c.contains.ensures.value ∙ contains_tells c.args.number c.waiting-waiting.result.now in grind (arith, common_steps)
 
 pub returns : goal.returns
-unfolding entry_fault has_room line_at reserve ceiling reserve_in ceiling_in commons places over_shippers
-returns c = simp (
-  c.or_else-2.ensures,
-  c.or_else.ensures,
-  c.demand-3.ensures,
-  c.demand-2.ensures,
-  c.demand.ensures,
-  c.count_commons-commons.ensures,
-  c.count_commons_used-used.ensures,
-  c.is_waiting-waits.ensures,
-  many c.args.book c.args.shipper c.args.number c.requires,
-)
+unfolding entry_fault has_room waiting_of line_at has reserve ceiling reserve_in ceiling_in commons places over_shippers
+returns c =
+    let told = c.contains.ensures.value ∙ contains_tells c.args.number c.waiting-waiting.result.now ∙ ap (λ (xs : List ℕ). is_one_of c.args.number xs) c.waiting-waiting.ensures in
+    let many = ap (length {A = ℕ}) c.waiting-waiting.ensures in
+    let reserve_free = ap (λ (n : ℕ). ltb n (get_or c.args.book.figures.reserves c.args.shipper 0)) many in
+    let ceiling_free = ap (λ (n : ℕ). ltb n (get_or c.args.book.figures.ceilings c.args.shipper 0)) many in
+    c.demand-3.ensures ∙ (λ i. demand (reserve_free i || ltb (c.count_commons_used.ensures i) (c.count_commons.ensures i)) 25)
+    ∙ sym (or_else_next _ (ap (λ (t : Bool). demand (not t) 23) (sym told) ∙ sym c.in_ok-demand.ensures) ∙ or_else_next _ (ap (λ (t : Bool). demand t 24) (sym ceiling_free) ∙ sym c.in_ok-demand-2.ensures))

@@ -1,14 +1,7 @@
--- `book::judge::judge_request` meets its contract: the first three numbers, and past them the others of a request.
-use mathlib.Core.Path.{sym, ap, ◌∙◌}
-use Rattle.refusals.specs.Verdict.{fault_of}
-use Rattle.book.specs.Calls.{request_fault}
-use Rattle.book.proofs.judge.judge_request.Goals.{In-Fine}
+-- `book::judge::judge_request` meets its contract: past the first three numbers the shipper is known.
+use mathlib.Core.Path.{sym}
+use Rattle.book.proofs.Calls.{called}
 use Rattle.book.proofs.judge.judge_request.Goals as goal
 
-pub returns-in-Fine : goal.returns-in-Fine
-unfolding request_fault
-returns-in-Fine c = rw (sym c.judge_call-call.ensures ∙ ap fault_of c.in-Fine.is) c.judge_entry.ensures
-
-pub returns-in-Refused : goal.returns-in-Refused
-unfolding request_fault
-returns-in-Refused c = let told = ap fault_of c.in-Refused.is in rw (sym c.judge_call-call.ensures ∙ told) told
+pub judge_entry-requires : goal.judge_entry-requires
+judge_entry-requires c = (called _ _ _ (sym c.in_ok-judge_call.ensures)).known

@@ -1,38 +1,31 @@
--- `book::sound::count_commons_used` meets its contract: each count is what the shipper has waiting, and the sum is small.
-use Prim.Native.Nat.{ℕ, ◌+◌, ◌≤◌, ◌<◌}
-use native.Mathlib.Omega.{arith}
-use Rattle.book.specs.Figures.{over_shippers, line_at, reserve_in, reserve, commons_used}
-use Rattle.book.proofs.Books.{lines_are, few_at, beyond_count}
-use Rattle.book.proofs.sound.count_commons_used.Goals.{After-count_beyond-fourth, Start}
+-- `book::sound::count_commons_used` meets its contract: a line and a reserve for each of the four shippers, and the sum is small.
+use mathlib.Core.Path.{◌≡◌, ◌∙◌}
+use Rattle.std.proofs.Common.{rules, tests, arith, ℕ, ◌-◌, ◌≤◌, []}
+use Rattle.std.proofs.lemmas.Iterator.{YieldsList-from_slice, YieldsList-from_zip, YieldsList-from_map}
+use Rattle.std.proofs.lemmas.Iterator.Adapters.{fits_from_length, at_most_from_yields_List}
+use Rattle.std.proofs.lemmas.Iterator.Consumers.{YieldsList-at, sum_by_from_yields_List}
+use Rattle.std.specs.List.{zip}
+use lib.ListN.{length}
+use Rattle.book.specs.Line.{waiting}
+use Rattle.book.specs.Figures.{commons_used, over_shippers, beyond, has, waiting_of, line_at, reserve, reserve_in}
+use Rattle.book.specs.declared.Line.{Line}
+use Rattle.book.proofs.Four.{sum_pairs, length_pairs}
 use Rattle.book.proofs.sound.count_commons_used.Goals as goal
 
-few : (c : Start) (s : ℕ) → s < 4 → (line_at c.args.book s).count ≤ 16
-few c s h = few_at c.args.book s (lines_are c.args.book c.requires.0 c.requires.1 s h)
-
-most : (c : After-count_beyond-fourth) → (c.count_beyond-first.result ≤ 16) × (c.count_beyond-second.result ≤ 16) × (c.count_beyond-third.result ≤ 16) × (c.count_beyond-fourth.result ≤ 16)
-unfolding line_at
-most c =
-    let first = few_at c.args.book 0 (lines_are c.args.book c.requires.0 c.requires.1 0 (omega arith)) in
-    let second = few_at c.args.book 1 (lines_are c.args.book c.requires.0 c.requires.1 1 (omega arith)) in
-    let third = few_at c.args.book 2 (lines_are c.args.book c.requires.0 c.requires.1 2 (omega arith)) in
-    let fourth = few_at c.args.book 3 (lines_are c.args.book c.requires.0 c.requires.1 3 (omega arith)) in
-    (omega arith, omega arith, omega arith, omega arith)
-
-pub overflow_add-result : goal.overflow_add-result
-overflow_add-result c = let m = most (goal.at.overflow_add-result c).After-count_beyond-fourth in omega arith
-
-pub overflow_add-result-2 : goal.overflow_add-result-2
-overflow_add-result-2 c = let m = most (goal.at.overflow_add-result-2 c).After-count_beyond-fourth in omega arith
-
-pub overflow_add-result-3 : goal.overflow_add-result-3
-overflow_add-result-3 c = let m = most (goal.at.overflow_add-result-3 c).After-count_beyond-fourth in omega arith
+pub sum-requires-clause-fits : goal.sum-requires-clause-fits
+sum-requires-clause-fits c =
+    let book = c.args.book in
+    let few : length book.lines ≡ 4 = search rules in
+    let many : length book.figures.reserves ≡ 4 = search rules in
+    let pairs : length (zip book.lines book.figures.reserves) ≤ 4 = length_pairs _ _ few many in
+    fits_from_length _ _ 4 _ (at_most_from_yields_List (YieldsList-from_zip (YieldsList-from_slice book.lines (search rules)) (YieldsList-from_slice book.figures.reserves (search rules))) pairs) c.map.ensures.closure (omega arith) (λ x r q k. search (rules, tests))
 
 pub returns : goal.returns
-unfolding line_at commons_used over_shippers reserve reserve_in
-returns c = let b = c.args.book in
-    let line = lines_are b c.requires.0 c.requires.1 in
-    let first = beyond_count b 0 (line 0 (omega arith)) c.count_beyond-first.ensures in
-    let second = beyond_count b 1 (line 1 (omega arith)) c.count_beyond-second.ensures in
-    let third = beyond_count b 2 (line 2 (omega arith)) c.count_beyond-third.ensures in
-    let fourth = beyond_count b 3 (line 3 (omega arith)) c.count_beyond-fourth.ensures in
-    λ i. first i + (second i + (third i + fourth i))
+unfolding commons_used over_shippers beyond has waiting_of line_at reserve reserve_in
+returns c =
+    let book = c.args.book in
+    let few : length book.lines ≡ 4 = search rules in
+    let many : length book.figures.reserves ≡ 4 = search rules in
+    sum_by_from_yields_List _ _ c.map.result c.sum.result c.sum.ensures.ran
+    (YieldsList-from_map _ (λ (p : Line × ℕ). length (waiting p.0) - p.1) (YieldsList-at c.map.ensures.source (YieldsList-from_zip (YieldsList-from_slice book.lines (search rules)) (YieldsList-from_slice book.figures.reserves (search rules)))) c.map.ensures.closure (λ x r q k. search (rules, tests)))
+    ∙ sum_pairs _ _ few many (record { numbers = []; count = 0 }) (λ (line : Line) (own : ℕ). length (waiting line) - own)

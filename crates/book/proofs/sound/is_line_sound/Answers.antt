@@ -1,28 +1,29 @@
 -- `book::sound::is_line_sound` meets its contract: a line that a machine holds is as wide as a line is, and the tests come in their order.
-use mathlib.Core.Path.{◌≡◌, sym, ◌∙◌}
+use mathlib.Core.Path.{◌≡◌, refl, sym, ap, ◌∙◌}
 use mathlib.Core.Bool.{true, false}
-use borrow.Author.Tests.{le-leb, lt-leb, eq-eqb}
-use lib.Dec.{leb, eqb}
+use borrow.Author.Tests.{le-leb, lt-leb}
+use Rattle.std.proofs.Common.{rules}
 use lib.ListN.{length}
-use Rattle.book.specs.Sound.{is_line_sound}
-use Rattle.book.proofs.sound.is_line_sound.Goals.{Start}
+use Rattle.book.specs.Line.{are_proper}
+use Rattle.book.proofs.Books.{line_judged}
+use Rattle.book.proofs.sound.is_line_sound.Goals.{then-line-ceiling, else-line-ceiling}
 use Rattle.book.proofs.sound.is_line_sound.Goals as goal
 
-wide : (c : Start) → eqb (length c.args.line.numbers) 16 ≡ true
-wide c = eq-eqb _ _ (c.well_formed.0.1.1.0.1.0.1)
-
-pub returns-then-ceiling-line : goal.returns-then-ceiling-line
-unfolding is_line_sound
-returns-then-ceiling-line c = let line = c.args.line in
-    let many : leb line.count c.args.ceiling ≡ false = lt-leb _ _ c.if-ceiling-line.true in
-    rw (wide (goal.at.returns-then-ceiling-line c).Start, many)
-
 pub returns-then-are_proper : goal.returns-then-are_proper
-unfolding is_line_sound
-returns-then-are_proper c = let proper = sym c.are_proper.ensures ∙ c.if-are_proper.true in
-    rw (wide ((goal.at.returns-then-are_proper c).Start), le-leb _ _ c.if-ceiling-line.false, proper) c.are_unused_zero.ensures
+returns-then-are_proper c =
+    let wide : length c.args.line.now.numbers ≡ 16 = search rules in
+    elim c.if-line-ceiling.branch [
+      | then-line-ceiling w ↦
+          sym (line_judged c.args.ceiling c.args.line.now true true _ wide (le-leb _ _ w.if-line-ceiling.true) (ap are_proper (sym w.waiting.ensures) ∙ sym w.are_proper.ensures ∙ sym w.value-is ∙ c.if-are_proper.true) (sym c.are_unused_zero.ensures))
+      | else-line-ceiling w ↦ absurd (search rules)
+    ]
 
 pub returns-else-are_proper : goal.returns-else-are_proper
-unfolding is_line_sound
-returns-else-are_proper c = let improper = sym c.are_proper.ensures ∙ c.if-are_proper.false in
-    rw (wide (goal.at.returns-else-are_proper c).Start, le-leb _ _ c.if-ceiling-line.false, improper)
+returns-else-are_proper c =
+    let wide : length c.args.line.now.numbers ≡ 16 = search rules in
+    elim c.if-line-ceiling.branch [
+      | then-line-ceiling w ↦
+          c.if-are_proper.false
+          ∙ sym (line_judged c.args.ceiling c.args.line.now true false _ wide (le-leb _ _ w.if-line-ceiling.true) (ap are_proper (sym w.waiting.ensures) ∙ sym w.are_proper.ensures ∙ sym w.value-is ∙ c.if-are_proper.false) refl)
+      | else-line-ceiling w ↦ c.if-are_proper.false ∙ sym (line_judged c.args.ceiling c.args.line.now false _ _ wide (lt-leb _ _ w.if-line-ceiling.false) refl refl)
+    ]

@@ -1,4 +1,4 @@
--- `draw::judging::judge_fills` meets its contract. The loop's invariant: the first fault of all is the first from record i on.
+-- The first fault of all is the first from record i on.
 use mathlib.Core.Path.{◌≡◌}
 use Prim.Native.Nat.{◌-◌}
 use Rattle.octets.specs.FirstToLast.{scan}
@@ -7,6 +7,3 @@ use Rattle.draw.proofs.judging.judge_fills.Given as goal
 
 abbrev pub invariant-loop-i : goal.invariant-loop-i
 invariant-loop-i l = scan (fill_fault l.s) l.fills 0 ≡ scan (fill_fault l.s) (l.fills - l.i) l.i
-
-abbrev pub decreases-loop-i : goal.decreases-loop-i
-decreases-loop-i l = l.fills - l.i

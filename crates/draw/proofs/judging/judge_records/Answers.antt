@@ -1,36 +1,24 @@
 -- `draw::judging::judge_records` meets its contract: 1, 3, the records first to last.
-use mathlib.Core.Path.{◌≡◌, sym, ap, ◌∙◌}
-use mathlib.Core.Bool.{Bool, true, ◌&&◌}
-use Prim.Native.Nat.{◌%◌}
-use lib.Dec.{eqb}
-use lib.ListN.{length}
-use Rattle.refusals.specs.Told.{demand, or_else}
-use Rattle.refusals.proofs.Laws.{or_else_next, or_else_first, demand_holds, demand_fails}
-use Rattle.ranges.specs.Table.{fills_ok}
+use mathlib.Core.Path.{sym}
+use Rattle.refusals.proofs.Laws.{or_else_first, demand_was}
 use Rattle.octets.specs.Records.{records_in, are_records}
 use Rattle.draw.specs.Answers.{fills_fault}
+use Rattle.draw.proofs.Judged.{fault_back}
 use Rattle.draw.proofs.Sound.{count_within}
-use Rattle.draw.proofs.judging.judge_records.Lts.View as view
-use Rattle.draw.proofs.judging.judge_records.Goals.{After-are_fills, Then-s-are_fills}
 use Rattle.draw.proofs.judging.judge_records.Goals as goal
 
--- what the code tests first
-tested : (c : After-are_fills) → are_records fills_ok 32 (length c.args.s.now) ≡ (eqb (length c.args.s.now % 32) 0 && c.are_fills.result)
-unfolding are_records
-tested c = sym (ap (λ (b : Bool). eqb (length c.args.s.now % 32) 0 && b) c.are_fills.ensures)
+pub returns-in_err-demand : goal.returns-in_err-demand
+unfolding fills_fault are_records
+returns-in_err-demand c = rw (← c.are_fills.ensures) (fault_back _ _ c.from_residual.ensures.1 (or_else_first _ (sym c.in_err-demand.ensures)))
 
-whole : (c : Then-s-are_fills) → are_records fills_ok 32 (length c.args.s.now) ≡ true
-whole c = tested (view.up-After-are_fills _ _ _ c.before.before) ∙ c.if-s-are_fills.true
+pub returns-in_err-demand-2 : goal.returns-in_err-demand-2
+unfolding fills_fault are_records
+returns-in_err-demand-2 c = rw (← c.are_fills.ensures, ← c.in_ok-demand.ensures, ← c.is_metal.ensures, ← c.is_pipe.ensures) (fault_back _ _ c.from_residual-in_err-demand-2.ensures.1 (or_else_first _ (sym c.in_err-demand-2.ensures)))
 
 pub judge_fills-requires : goal.judge_fills-requires
-unfolding records_in fills_fault
-judge_fills-requires c = (count_within c.args.s.now (whole (goal.at.judge_fills-requires c).Then-s-are_fills)).1
-
-pub returns-then-s-are_fills : goal.returns-then-s-are_fills
-unfolding records_in fills_fault
-returns-then-s-are_fills c = let three = c.demand.ensures ∙ (λ i. demand (c.is_metal.ensures i && c.is_pipe.ensures i) 3) in
-    c.or_else.ensures ∙ (λ i. or_else (three i) (c.judge_fills.ensures i)) ∙ sym (or_else_next _ (demand_holds 1 (whole (goal.at.returns-then-s-are_fills c).Then-s-are_fills)))
+unfolding are_records records_in
+judge_fills-requires c = (count_within c.args.s.now (demand_was _ 1 (rw (← c.are_fills.ensures) (sym c.in_ok-demand.ensures)))).1
 
 pub returns : goal.returns
-unfolding records_in fills_fault
-returns c = sym (or_else_first _ (demand_fails 1 (tested (goal.at.returns c).After-are_fills ∙ c.if-s-are_fills.false)))
+unfolding fills_fault are_records records_in
+returns c = rw (← c.are_fills.ensures, ← c.in_ok-demand.ensures, ← c.is_metal.ensures, ← c.is_pipe.ensures, ← c.in_ok-demand-2.ensures) c.judge_fills.ensures

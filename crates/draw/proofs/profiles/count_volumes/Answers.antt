@@ -7,8 +7,8 @@ use Rattle.draw.proofs.profiles.count_volumes.Goals as goal
 
 pub returns-in-Unidirectional : goal.returns-in-Unidirectional
 unfolding volume_count
-returns-in-Unidirectional c = c.count_passes-passes.ensures ∙ sym (ap (λ (p : Profile). volume_count p c.args.s.now) c.in-Unidirectional.is)
+returns-in-Unidirectional c = c.count_passes-passes.ensures ∙ sym (ap (λ (p : Profile). volume_count p c.args.judged.now.records.now) c.in-Unidirectional.is)
 
 pub returns-in-Bidirectional : goal.returns-in-Bidirectional
 unfolding volume_count
-returns-in-Bidirectional c = ap (λ (m : ℕ). m / 2) c.count_passes-passes.ensures ∙ sym (ap (λ (p : Profile). volume_count p c.args.s.now) c.in-Bidirectional.is)
+returns-in-Bidirectional c = ap (λ (m : ℕ). m / 2) c.count_passes-passes.ensures ∙ sym (ap (λ (p : Profile). volume_count p c.args.judged.now.records.now) c.in-Bidirectional.is)

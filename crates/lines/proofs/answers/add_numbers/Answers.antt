@@ -4,26 +4,21 @@ use native.Mathlib.Omega.{arith}
 use Rattle.lines.proofs.Pieces.{place_step, left_step, place_end, left_end}
 use Rattle.lines.proofs.answers.add_numbers.Goals as goal
 
-pub loop-i-preserved : goal.loop-i-preserved
-loop-i-preserved c =
-    let l = c.loop-i in
+pub loop-n-preserved : goal.loop-n-preserved
+loop-n-preserved c =
+    let l = c.loop-n in
     let ns = c.args.numbers.now in
-    let n = c.add_number-at in (
-      omega arith,
-      (
-        omega arith,
-        (
-          place_step l.out l.at ns l.i n.result n.new.out (omega arith) n.ensures.place n.ensures.left ∙ l.invariant.1.1.0,
-          left_step l.out l.at ns l.i n.result n.new.out (omega arith) n.ensures.place n.ensures.left ∙ l.invariant.1.1.1,
-        ),
-      ),
-    )
+    let n = c.add_number-at in
+    record {
+      place = place_step l.out l.at ns l.n-index n.result n.new.out (omega arith) n.ensures.place n.ensures.left ∙ l.invariant.place;
+      left = left_step l.out l.at ns l.n-index n.result n.new.out (omega arith) n.ensures.place n.ensures.left ∙ l.invariant.left;
+    }
 
 pub returns : goal.returns
 returns c =
-    let l = c.loop-i in
+    let l = c.loop-n in
     let ns = c.args.numbers.now in
     record {
-      place = sym (place_end l.out l.at ns l.i (omega arith)) ∙ l.invariant.1.1.0;
-      left = sym (left_end l.out l.at ns l.i (omega arith)) ∙ l.invariant.1.1.1;
+      place = sym (place_end l.out l.at ns l.n-index (omega arith)) ∙ l.invariant.place;
+      left = sym (left_end l.out l.at ns l.n-index (omega arith)) ∙ l.invariant.left;
     }

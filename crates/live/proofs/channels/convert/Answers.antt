@@ -1,48 +1,26 @@
--- `live::channels::convert` meets its contract: the pressure's channel is taken where the temperature's is.
-use mathlib.Core.Path.{◌≡◌, sym, ap, ◌∙◌}
-use native.Mathlib.Omega.{arith}
-use lib.IntN.{ℤ, nat_abs}
-use mir.Syntax.{w16}
-use mir.Val.{to_z, of_z}
-use borrow.Author.Rules.{rules}
+-- `live::channels::convert` meets its contract: the pressure is told of where the temperature is taken.
+use Rattle.std.proofs.Common.{rules, w16, to_z, of_z, nat_abs, Err, ◌≡◌, ap, ◌∙◌, ℤ}
 use Rattle.refusals.specs.Told.{Told, done}
-use Rattle.live.specs.Live.{in_order, told}
-use Rattle.live.specs.Channels.{told_taken, temperature_channel_of, pressure_channel_of, channels_of}
-use Rattle.live.proofs.Words.{psi_unsigned}
-use Rattle.live.proofs.Taken.{pressure_taken}
-use Rattle.live.proofs.channels.convert.Goals.{In-Whole, In-Whole-take_pressure}
+use Rattle.refusals.specs.Answered.{told}
+use Rattle.live.specs.Live.{in_order}
+use Rattle.live.specs.Channels.{pressure_channel_of, channels_of}
 use Rattle.live.proofs.channels.convert.Goals as goal
 
-tenths-taken : (c : In-Whole) → temperature_channel_of c.args.temperature ≡ done c.in-Whole.tenths
-unfolding told_taken
-tenths-taken c = sym c.take_temperature.ensures ∙ ap told_taken c.in-Whole.is
+pub returns-in_err-tenths : goal.returns-in_err-tenths
+unfolding channels_of
+returns-in_err-tenths c =
+    let passed_on : c.from_residual.result ≡ Err c.in_err-tenths.field-0.0 = search rules in
+    ap told passed_on ∙ ap (λ (t : Told ℤ). in_order t (pressure_channel_of c.args.pressure)) c.in_err-tenths.ensures
 
-psi-taken : (c : In-Whole-take_pressure) → pressure_channel_of c.args.pressure ≡ done c.in-Whole-take_pressure.psi
-unfolding told_taken
-psi-taken c = sym c.take_pressure.ensures ∙ ap told_taken c.in-Whole-take_pressure.is
+pub returns-in_err-take_pressure : goal.returns-in_err-take_pressure
+unfolding channels_of
+returns-in_err-take_pressure c =
+    let passed_on : c.from_residual-in_err-take_pressure.result ≡ Err c.in_err-take_pressure.field-0.0 = search rules in
+    ap told passed_on ∙ (λ i. in_order (c.in_ok-tenths.ensures i) (c.in_err-take_pressure.ensures i))
 
--- what the machine reads back of a signed number is that number
-tenths-back : (c : In-Whole) → to_z w16 (of_z w16 c.in-Whole.tenths) ≡ c.in-Whole.tenths
-tenths-back c = search rules
-
-psi-back : (c : In-Whole-take_pressure) → to_z w16 (of_z w16 c.in-Whole-take_pressure.psi) ≡ c.in-Whole-take_pressure.psi
-psi-back c = search rules
-
-pub overflow_cast-result : goal.overflow_cast-result
-overflow_cast-result c = let psi = psi_unsigned _ (pressure_taken _ (psi-taken (goal.at.overflow_cast-result c).In-Whole-take_pressure)) in
-    rw (psi-back (goal.at.overflow_cast-result c).In-Whole-take_pressure) (psi.0, record { fits = omega (arith, psi.1) })
-
-pub returns-in-Whole-take_pressure : goal.returns-in-Whole-take_pressure
-unfolding told channels_of
-returns-in-Whole-take_pressure c = (λ i. done (record { tenths = tenths-back (goal.at.returns-in-Whole-take_pressure c).In-Whole i; psi = nat_abs (psi-back (goal.at.returns-in-Whole-take_pressure c).In-Whole-take_pressure i) }))
-    ∙ sym (λ i. in_order (tenths-taken (goal.at.returns-in-Whole-take_pressure c).In-Whole i) (psi-taken (goal.at.returns-in-Whole-take_pressure c).In-Whole-take_pressure i))
-
-pub returns-in-Refused-take_pressure : goal.returns-in-Refused-take_pressure
-unfolding told told_taken channels_of
-returns-in-Refused-take_pressure c = sym (λ i. in_order (tenths-taken (goal.at.returns-in-Refused-take_pressure c).In-Whole i) ((sym c.take_pressure.ensures ∙ ap told_taken c.in-Refused-take_pressure.is) i))
-
-pub returns-in-Refused : goal.returns-in-Refused
-unfolding told told_taken channels_of
-returns-in-Refused c = sym
-    (ap (λ (temperature : Told ℤ). in_order temperature (pressure_channel_of c.args.pressure))
-    (sym c.take_temperature.ensures ∙ ap told_taken c.in-Refused.is))
+pub returns : goal.returns
+unfolding channels_of
+returns c =
+    let tenths : to_z w16 (of_z w16 c.in_ok-tenths.tenths) ≡ c.in_ok-tenths.tenths = search rules in
+    let psi : c.unsigned_abs-psi.result ≡ nat_abs c.in_ok-take_pressure.field-0 = search rules in
+    (λ i. done (record { tenths = tenths i; psi = psi i })) ∙ (λ i. in_order (c.in_ok-tenths.ensures i) (c.in_ok-take_pressure.ensures i))

@@ -1,7 +1,7 @@
 -- `live::channels::take_temperature` meets its contract: each kind of channel as it is matched.
 use mathlib.Core.Path.{sym, ap, ◌∙◌}
 use Rattle.live.specs.Live.{temperature_of}
-use Rattle.live.specs.Channels.{told_taken, celsius_of, temperature_channel_of}
+use Rattle.live.specs.Channels.{celsius_of, temperature_channel_of}
 use Rattle.live.proofs.channels.take_temperature.Goals as goal
 
 pub returns-in-Fahrenheit : goal.returns-in-Fahrenheit
@@ -13,9 +13,9 @@ unfolding temperature_channel_of celsius_of
 returns-in-Celsius c = c.take_tenths-in-Celsius.ensures ∙ sym (ap temperature_channel_of c.in-Celsius.is)
 
 pub returns-in-Pressure : goal.returns-in-Pressure
-unfolding told_taken temperature_channel_of
+unfolding temperature_channel_of
 returns-in-Pressure c = sym (ap temperature_channel_of c.in-Pressure.is)
 
 pub returns-in-Fault : goal.returns-in-Fault
-unfolding told_taken temperature_channel_of
+unfolding temperature_channel_of
 returns-in-Fault c = sym (ap temperature_channel_of c.in-Fault.is)

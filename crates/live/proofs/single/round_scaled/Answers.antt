@@ -27,15 +27,15 @@ returns-then-field-lt110 c = let v = c.args in
 pub overflow_mul-offset : goal.overflow_mul-offset
 overflow_mul-offset c = omega (arith, offset-product (goal.at.overflow_mul-offset c).After-raise_two-bottom)
 
-pub add_sided-sum-requires : goal.add_sided-sum-requires
-add_sided-sum-requires c = (offset-product (goal.at.add_sided-sum-requires c).After-raise_two-bottom, digits_product (goal.at.add_sided-sum-requires c).After-raise_two-bottom)
+pub sum-sum-requires : goal.sum-sum-requires
+sum-sum-requires c = (offset-product (goal.at.sum-sum-requires c).After-raise_two-bottom, digits_product (goal.at.sum-sum-requires c).After-raise_two-bottom)
 
 pub round_half_up-size-requires : goal.round_half_up-size-requires
 round_half_up-size-requires c = (subst⁻¹ (λ (n : ℕ). 0 < n) c.raise_two-bottom.ensures (pow_pos _), bottom-at-most (goal.at.round_half_up-size-requires c).After-raise_two-bottom)
 
 pub returns : goal.returns
 returns c = let v = c.args in
-    let sum = c.add_sided-sum in
+    let sum = c.sum-sum in
     whole_by_parts v.offset v.times v.bits sum.result.below sum.result.size
     c.if-field-lt110.false
     c.requires

@@ -7,4 +7,4 @@ use Rattle.run.proofs.records.decode.Goals as goal
 pub returns : goal.returns
 unfolding run_at
 returns c = let a = c.args in
-    c.read_run.ensures ∙ begun a.form a.s.now a.i c.begin.ensures.1
+    c.read_run.ensures ∙ begun a.form a.s.now a.i c.begin.ensures

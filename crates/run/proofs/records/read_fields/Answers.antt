@@ -1,25 +1,16 @@
--- `run::records::read_fields` meets its contract: each field stands at its place.
-use mathlib.Core.Path.{◌∙◌}
-use mir.Syntax.{w16}
-use mir.ValLaws.{to_z-of_z}
-use Rattle.run.specs.Record.{fields_from}
+-- `run::records::read_fields` meets its contract: the meter's fields stand 2 bytes behind the prover's.
+use Rattle.std.specs.Prelude.{List, ℕ, ◌≡◌, ◌+◌}
+use Rattle.std.proofs.Common.{arith}
+use Rattle.std.proofs.lemmas.Grind.{common_steps}
+use Rattle.run.specs.Record.{side_from, fields_from}
+use Rattle.run.specs.declared.Run.{Run}
+use Rattle.run.specs.declared.Side.{Side}
 use Rattle.run.proofs.records.read_fields.Goals as goal
 
+both : (pulses : ℕ) (s : List ℕ) (old : ℕ) (prover meter : Side) → prover ≡ side_from s (old + 4) → meter ≡ side_from s (old + 6)
+    → ◌≡◌ {A = Run} (record { pulses = pulses; prover = prover; meter = meter }) (fields_from pulses s old)
+unfolding side_from fields_from
+both pulses s old prover meter first second = grind (arith, common_steps)
+
 pub returns : goal.returns
-unfolding fields_from
-returns c = let warm = to_z-of_z w16 c.signed_at.result (record { sfits = c.signed_at.type_inv }) ∙ c.signed_at.ensures in
-    let metered = to_z-of_z w16 c.signed_at-2.result (record { sfits = c.signed_at-2.type_inv }) ∙ c.signed_at-2.ensures in
-    λ i.
-    record {
-      pulses = c.args.pulses;
-      prover = record {
-        temperature = warm i;
-        ctl = c.word_at.ensures i;
-        liquid = record { pressure = c.word_at-2.ensures i; compressibility = c.word_at-3.ensures i; equilibrium = c.word_at-4.ensures i };
-      };
-      meter = record {
-        temperature = metered i;
-        ctl = c.word_at-5.ensures i;
-        liquid = record { pressure = c.word_at-6.ensures i; compressibility = c.word_at-7.ensures i; equilibrium = c.word_at-8.ensures i };
-      };
-    }
+returns c = both c.args.pulses c.args.s.now c.args.old c.read_side.result c.read_side-2.result c.read_side.ensures c.read_side-2.ensures

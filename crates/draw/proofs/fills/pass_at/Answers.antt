@@ -1,7 +1,0 @@
--- `draw::fills::pass_at` meets its contract: it is what stands at its place.
-use Rattle.draw.specs.Fill.{fill_at, fill_from}
-use Rattle.draw.proofs.fills.pass_at.Goals as goal
-
-pub returns : goal.returns
-unfolding fill_at fill_from
-returns c = c.byte_at.ensures

@@ -1,6 +1,0 @@
--- `endakuro::answer_room` meets its contract.
-use Rattle.endakuro.proofs.Rooms.{zeros}
-use Rattle.endakuro.proofs.answer_room.Goals as goal
-
-pub returns : goal.returns
-returns c = zeros 1049600

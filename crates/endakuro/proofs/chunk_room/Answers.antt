@@ -1,6 +1,0 @@
--- `endakuro::chunk_room` meets its contract.
-use Rattle.endakuro.proofs.Rooms.{zeros}
-use Rattle.endakuro.proofs.chunk_room.Goals as goal
-
-pub returns : goal.returns
-returns c = zeros 65536

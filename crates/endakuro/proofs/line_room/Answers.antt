@@ -1,6 +1,0 @@
--- `endakuro::line_room` meets its contract.
-use Rattle.endakuro.proofs.Rooms.{zeros}
-use Rattle.endakuro.proofs.line_room.Goals as goal
-
-pub returns : goal.returns
-returns c = zeros 1048576
