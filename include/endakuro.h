@@ -2,7 +2,7 @@
  *
  * The functions below are proved to do what they say here for every input, so a caller checks nothing first.
  * Build the archive with tests/c/archive, link target/staticlib/libapi.a (x86-64), and include this file
- * from C11 or C++17. Nothing here allocates, keeps anything between calls or prints; a call takes less than 2 KB
+ * from C11 or C++17. Nothing here allocates, keeps anything between calls or prints; a call takes less than 3 KB
  * of stack.
  *
  * ANSWERS start with `number` and `record`; a part of records, a quotient, a book and a bool have neither.

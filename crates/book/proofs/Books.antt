@@ -1,11 +1,12 @@
 -- What soundness tells of a book: its shape, its figures, each shipper's line, the commons, the last served; and that this is all of it.
-use mathlib.Core.Path.{◌≡◌}
+use mathlib.Core.Path.{◌≡◌, sym, ap, ◌∙◌}
 use mathlib.Core.Bool.{Bool, true, ◌&&◌}
-use Prim.Native.Nat.{ℕ, zero, suc, ◌≤◌, ◌<◌}
+use Prim.Native.Nat.{ℕ, zero, suc, ◌-◌, ◌≤◌, ◌<◌}
 use native.Mathlib.Omega.{arith}
 use borrow.Author.Tests.{leb-true, le-leb, ltb-true, lt-ltb, eqb-true, eq-eqb}
 use lib.Dec.{leb, ltb, eqb}
-use lib.ListN.{length}
+use lib.ListN.{length, get_or}
+use lib.Seq.{get_or-take}
 use Rattle.octets.specs.Octets.{zero_between}
 use Rattle.octets.proofs.FirstToLast.{tests, empty, nowhere}
 use Rattle.book.specs.Line.{waiting, are_proper}
@@ -100,6 +101,15 @@ module _ (book : Book) (s : ℕ) (line : SoundLine (ceiling book s) (line_at boo
   pub has_count : has book s ≡ (line_at book s).count
   unfolding has waiting_of
   has_count = let few = few_at in waiting_count (line_at book s) (omega arith) line.wide
+
+  pub beyond_count : {r : ℕ} → r ≡ (line_at book s).count - reserve book s → r ≡ beyond book s
+  unfolding beyond
+  beyond_count is = is ∙ ap (λ (n : ℕ). n - reserve book s) (sym has_count)
+
+-- the oldest stands first in the line
+pub oldest_first : (book : Book) (s : ℕ) → 0 < (line_at book s).count → get_or (waiting_of book s) 0 0 ≡ get_or (line_at book s).numbers 0 0
+unfolding waiting_of waiting
+oldest_first book s some = get_or-take (line_at book s).count (line_at book s).numbers 0 0 some
 
 -- 'places 16': a sound book never holds more
 pub holds_its_places : (book : Book) → SoundBook book → held book ≤ places book

@@ -7,7 +7,7 @@ use mathlib.Core.List.{List, [], ◌∷◌, ◌++◌}
 use Prim.Native.Nat.{ℕ, ◌+◌, ◌≤◌, ◌<◌}
 use native.Mathlib.Decide.{ℕ_discrete}
 use native.Mathlib.Omega.{arith}
-use borrow.Author.Tests.{ltb-true}
+use borrow.Author.Tests.{ltb-true, lt-ltb, le-ltb}
 use lib.Dec.{ltb}
 use lib.ListN.{length, get_or, length-append}
 use Rattle.refusals.specs.Told.{done, refused, Fault, fine, fault, demand, unless, judged, left_by}
@@ -121,17 +121,32 @@ unfolding has_any has
 turn_any book turn is = ltb-true _ _ (turn_first book is).passes
 
 -- which turn is next: nobody before it has any
-abbrev pub NoneBefore : Book → ℕ → Type 0
-NoneBefore book turn = (j : ℕ) → 1 ≤ j → j < turn → has_any book j ≡ false
+abbrev pub NobodyBefore : Book → ℕ → Type 0
+NobodyBefore book turn = (j : ℕ) → 1 ≤ j → j < turn → has_any book j ≡ false
 
 module _ (book : Book) where
-  pub turn_is : (turn : ℕ) → 1 ≤ turn → turn ≤ 4 → has_any book turn ≡ true → NoneBefore book turn → next_turn book ≡ Some turn
+  pub turn_here : (turn : ℕ) → 1 ≤ turn → turn ≤ 4 → has_any book turn ≡ true → NobodyBefore book turn → next_turn book ≡ Some turn
   unfolding next_turn shippers
-  turn_is turn l h any nobody = first-place (has_any book) 4 1 (record { from = l; below = omega arith; passes = any; before = nobody })
+  turn_here turn l h any nobody = first-place (has_any book) 4 1 (record { from = l; below = omega arith; passes = any; before = nobody })
+
+  pub turn_nowhere : NobodyBefore book 5 → next_turn book ≡ None
+  unfolding next_turn shippers
+  turn_nowhere nobody = nowhere searched (place_if (has_any book)) 4 1 (λ j l h. place_no (has_any book) j (nobody j l (omega arith)))
+
+-- the same of a sound book, by the counts of the lines
+abbrev pub NoneBefore : Book → ℕ → Type 0
+NoneBefore book turn = (j : ℕ) → 1 ≤ j → j < turn → (line_at book (of_turn book j)).count ≤ 0
+
+module _ (book : Book) (sound : SoundBook book) where
+  any_count : (turn : ℕ) → has_any book turn ≡ ltb 0 (line_at book (of_turn book turn)).count
+  unfolding has_any
+  any_count turn = ap (ltb 0) (has_count book (of_turn book turn) (sound.lines (of_turn book turn) (turn_known book turn)))
+
+  pub turn_is : (turn : ℕ) → 1 ≤ turn → turn ≤ 4 → 0 < (line_at book (of_turn book turn)).count → NoneBefore book turn → next_turn book ≡ Some turn
+  turn_is turn l h any nobody = turn_here book turn l h (any_count turn ∙ lt-ltb _ _ any) (λ j l h. any_count j ∙ le-ltb _ _ (nobody j l h))
 
   pub turn_none : NoneBefore book 5 → next_turn book ≡ None
-  unfolding next_turn shippers
-  turn_none nobody = nowhere searched (place_if (has_any book)) 4 1 (λ j l h. place_no (has_any book) j (nobody j l (omega arith)))
+  turn_none nobody = turn_nowhere book (λ j l h. any_count j ∙ le-ltb _ _ (nobody j l h))
 
 pub take_did : (book : Book) → Out book (answer_to take book) (after_take book)
 unfolding answer_to after_take take_of handed_out oldest_of

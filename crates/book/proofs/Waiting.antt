@@ -7,10 +7,12 @@ use mathlib.Core.List.{List, [], ◌∷◌, ◌++◌}
 use Prim.Native.Nat.{ℕ, zero, suc, ◌+◌, ◌≤◌, ◌<◌}
 use native.Mathlib.Decide.{ℕ_discrete}
 use native.Mathlib.Nat.{suc-add}
+use native.Mathlib.Numerals.{add-one}
 use native.Mathlib.Omega.{arith}
 use borrow.Author.Tests.{lt-ltb, eq-eqb, ne_eqb, eqb-true, not-true}
 use lib.Dec.{eqb}
-use lib.ListN.{length, take, drop, get_or}
+use lib.ListN.{length, take, drop, get_or, drop_of_length-le}
+use lib.Seq.{length-take-le, take-suc, drop-append-le}
 use Rattle.octets.specs.Lists.{is_one_of}
 use Rattle.book.specs.Line.{without, are_proper}
 use Rattle.book.specs.Demand3.{times}
@@ -71,6 +73,21 @@ pub among_append : (x : ℕ) (xs ys : List ℕ) → is_one_of x (xs ++ ys) ≡ (
 unfolding is_one_of
 among_append x [] ys = refl
 among_append x (z ∷ zs) ys = ap (λ (t : Bool). eqb x z || t) (among_append x zs ys) ∙ sym (or_assoc (eqb x z) (is_one_of x zs) (is_one_of x ys))
+
+-- a number passed over from a place on
+pub missed_start : (x : ℕ) (xs : List ℕ) (from : ℕ) → from ≤ length xs → is_one_of x (drop from (take from xs)) ≡ false
+unfolding is_one_of
+missed_start x xs from h =
+    let short : length (take from xs) ≤ from = rw (length-take-le from xs h) (omega arith) in
+    ap (is_one_of x) (drop_of_length-le (take from xs) short)
+
+pub missed_next : (x : ℕ) (xs : List ℕ) (from i : ℕ) → from ≤ i → i < length xs → (x ≡ get_or xs i 0 → ⊥) → is_one_of x (drop from (take i xs)) ≡ false → is_one_of x (drop from (take (i + 1) xs)) ≡ false
+unfolding is_one_of
+missed_next x xs from i l h other new =
+    let long : length (take i xs) ≡ i = length-take-le i xs (omega arith) in
+    ap (λ (n : ℕ). is_one_of x (drop from (take n xs))) (add-one i) ∙ ap (λ (ys : List ℕ). is_one_of x (drop from ys)) (take-suc xs i 0 h)
+    ∙ ap (is_one_of x) (drop-append-le from (take i xs) (get_or xs i 0 ∷ []) (omega arith)) ∙ among_append x (drop from (take i xs)) (get_or xs i 0 ∷ [])
+    ∙ (λ j. new j || (ne_eqb x (get_or xs i 0) other j || false))
 
 pub proper_more : (x : ℕ) (xs : List ℕ) → are_proper xs ≡ true → is_one_of x xs ≡ false → (x ≡ 0 → ⊥) → are_proper (xs ++ (x ∷ [])) ≡ true
 unfolding are_proper is_one_of
@@ -148,6 +165,17 @@ pub oldest_without : (xs : List ℕ) → 0 < length xs → without (get_or xs 0 
 unfolding without
 oldest_without [] h = absurd (omega arith)
 oldest_without (y ∷ ys) h = ap (λ (t : Bool). cond t ys (y ∷ without y ys)) (eq-eqb y y refl)
+
+-- the first place that holds a number is the one that it gives up
+pub without_at : (x : ℕ) (xs : List ℕ) (p : ℕ) → p < length xs → is_one_of x (take p xs) ≡ false → get_or xs p 0 ≡ x → given_up p xs ≡ without x xs
+unfolding given_up without is_one_of
+without_at x [] p h new is = absurd (omega arith)
+without_at x (y ∷ ys) zero h new is = sym (ap (λ (t : Bool). cond t ys (y ∷ without x ys)) (eq-eqb x y (sym is)))
+without_at x (y ∷ ys) (suc p) h new is =
+    let other = neither_first (eqb x y) (is_one_of x (take p ys)) new in
+    let rest = without_at x ys p (omega arith) (neither_second (eqb x y) (is_one_of x (take p ys)) new) is in
+    ap (λ (n : ℕ). y ∷ take p ys ++ drop n (y ∷ ys)) (suc-add p 1) ∙ ap (λ (l : List ℕ). y ∷ l) rest
+    ∙ sym (ap (λ (t : Bool). cond t ys (y ∷ without x ys)) other)
 
 -- the first place that holds a number, or how many there are where none does
 abbrev pub place_of : ℕ → List ℕ → ℕ

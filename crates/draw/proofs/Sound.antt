@@ -78,6 +78,9 @@ module _ (profile : Profile) (prover : Prover) (s : List ℕ) (is : draw_fault p
   unfolding draw_fault
   fills_fine = or_else_fine_first (fills_fault prover s) _ is
 
+  pub draw_sound : Sound prover s
+  draw_sound = sound prover s fills_fine
+
   pub few_volumes : volume_count profile s ≤ 20
   unfolding draw_fault
   few_volumes = few profile s (demand_was (passes_fit profile (pass_count s)) 1 (or_else_fine_next (fills_fault prover s) _ is))

@@ -1,4 +1,8 @@
 // The input taken a step at a time: a step reads a chunk, or holds what the chunk has of the present line.
+ghost use Rattle.std.specs.Prelude.{◌≡◌, ◌≤◌, List, ℕ, length};
+ghost use Rattle.std.specs.Borrow.{Bor};
+
+use memchr::memchr;
 use std::io::{self, Read};
 
 // How far the present line has come.
@@ -37,7 +41,9 @@ pub(crate) fn hold_nothing() -> Held {
 }
 
 // The bytes from a place up to another; none where there are no such bytes.
-fn part<'a>(s: &'a [u8], from: usize, end: usize) -> &'a [u8] {
+fn part<'a>(s: &'a [u8], from: usize, end: usize) -> &'a [u8]
+    ensures { length result.now ≤ length s.now }
+{
     match s.get(from..end) {
         Some(bytes) => bytes,
         None => &s[..0],
@@ -69,7 +75,7 @@ fn read_chunk(length: Option<usize>, reader: &mut impl Read, chunk: &mut [u8]) -
 // Up to the line's end, or all that is left of the chunk.
 fn take_line(from: usize, length: Option<usize>, chunk: &[u8], line: &mut [u8]) -> Held {
     let rest = part(chunk, from, chunk.len());
-    match rest.iter().position(|byte| *byte == b'\n') {
+    match memchr(b'\n', rest) {
         Some(end) => Held {
             from: from.saturating_add(end).saturating_add(1),
             count: chunk.len(),
@@ -109,7 +115,9 @@ pub(crate) fn is_last(held: Held) -> bool {
 }
 
 // The held line without one CR at its end, once it is whole.
-pub(crate) fn held_line<'a>(held: Held, line: &'a [u8]) -> Present<'a> {
+pub(crate) fn held_line<'a>(held: Held, line: &'a [u8]) -> Present<'a>
+    ensures { (bytes : Bor (List ℕ)) → result ≡ Present.Whole bytes → length bytes.now ≤ length line.now }
+{
     match held.reach {
         Reach::Part => Present::Part,
         Reach::Whole | Reach::Last => match held.length {
@@ -119,7 +127,9 @@ pub(crate) fn held_line<'a>(held: Held, line: &'a [u8]) -> Present<'a> {
     }
 }
 
-fn drop_return<'a>(line: &'a [u8]) -> &'a [u8] {
+fn drop_return<'a>(line: &'a [u8]) -> &'a [u8]
+    ensures { length result.now ≤ length line.now }
+{
     match line {
         [before @ .., b'\r'] => before,
         _ => line,

@@ -15,6 +15,11 @@ pub record Gathered (f : List ℕ → ℕ) (join : ℕ → ℕ → ℕ) : Type 0
   pub alone : (x : ℕ) → f (x ∷ []) ≡ x
   pub joined : (x y : ℕ) (ys : List ℕ) → f (x ∷ (y ∷ ys)) ≡ f (join x y ∷ ys)
 
+module _ {f : List ℕ → ℕ} {join : ℕ → ℕ → ℕ} (kind : Gathered f join) (xs : List ℕ) where
+  -- the first value is gathered
+  pub begun : 0 < length xs → f (get_or xs 0 0 ∷ drop 1 xs) ≡ f xs
+  begun h = ap f (sym (drop-cons xs 0 0 h))
+
 module _ {f : List ℕ → ℕ} {join : ℕ → ℕ → ℕ} (kind : Gathered f join) (xs : List ℕ) {v : ℕ} where
   -- one value more
   pub next : {x : ℕ} (i : ℕ) → i < length xs → f (x ∷ drop i xs) ≡ v → f (join x (get_or xs i 0) ∷ drop (i + 1) xs) ≡ v

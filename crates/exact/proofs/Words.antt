@@ -1,8 +1,13 @@
 -- The two words of a number, and the number of two words.
-use mathlib.Core.Path.{◌≡◌, sym}
+use mathlib.Core.Path.{◌≡◌, sym, ◌∙◌}
+use mathlib.Core.Logic.{by_cases}
 use Prim.Native.Nat.{ℕ, ◌+◌, ◌*◌, ◌^◌, ◌<◌}
 use native.Mathlib.Nat.{div-add-mod'}
+use native.Mathlib.Decide.{dec_lt, dec_le}
+use native.Mathlib.Omega.{arith}
+use borrow.Author.Tests.{le-leb, lt-leb, lt-ltb, le-ltb}
 use lib.Arith.{digits_div, digits_mod}
+use lib.Dec.{leb, ltb}
 use Rattle.exact.specs.Words.{value_of, wide_of}
 use Rattle.exact.specs.declared.Wide.{Wide}
 
@@ -19,3 +24,17 @@ value_wide n = div-add-mod' n (2 ^ 64)
 pub words_of : (w : Wide) → w.lo < 2 ^ 64 → w ≡ wide_of (value_of w)
 unfolding value_of
 words_of w h = sym (words_one w.hi h)
+
+-- the upper words decide which of two numbers is larger, and the lower ones where those are equal
+module _ (h h' l l' : ℕ) where
+  pub lower : h ≡ h' → leb l l' ≡ leb (h * 2 ^ 64 + l) (h' * 2 ^ 64 + l')
+  lower same =
+      by_cases (dec_le l l')
+      (λ le. le-leb l l' le ∙ sym (le-leb (h * 2 ^ 64 + l) (h' * 2 ^ 64 + l') (omega arith)))
+      (λ more. lt-leb l l' (omega arith) ∙ sym (lt-leb (h * 2 ^ 64 + l) (h' * 2 ^ 64 + l') (omega arith)))
+
+  pub upper : (h ≡ h' → ⊥) → l < 2 ^ 64 → l' < 2 ^ 64 → ltb h h' ≡ leb (h * 2 ^ 64 + l) (h' * 2 ^ 64 + l')
+  upper differ fits fits' =
+      by_cases (dec_lt h h')
+      (λ less. lt-ltb h h' less ∙ sym (le-leb (h * 2 ^ 64 + l) (h' * 2 ^ 64 + l') (omega arith)))
+      (λ more. le-ltb h h' (omega arith) ∙ sym (lt-leb (h * 2 ^ 64 + l) (h' * 2 ^ 64 + l') (omega arith)))

@@ -3,7 +3,7 @@ use Rattle.std.specs.Prelude.{Ok, Err}
 use mathlib.Core.Path.{◌≡◌, refl, sym, ap, ◌∙◌}
 use mathlib.Core.Bool.{Bool, true, false, cond}
 use mathlib.Core.List.{List, [], ◌∷◌}
-use Prim.Native.Nat.{ℕ, ◌*◌, ◌^◌, ◌<◌, ◌≤◌}
+use Prim.Native.Nat.{ℕ, zero, suc, ◌*◌, ◌^◌, ◌<◌, ◌≤◌}
 use native.Mathlib.Nat.{mul-one, one-mul, mul_assoc, mul-le-mul, pow-zero, pow-suc}
 use native.Mathlib.Omega.{arith}
 use borrow.Author.Tests.{le-leb, lt-leb, lt-ltb, ne_eqb}
@@ -18,6 +18,12 @@ use Rattle.factors.specs.Rounded.{combined_at}
 use Rattle.factors.specs.Answers.{held, combined_of}
 use Rattle.factors.specs.declared.CombineError.TheVariants.{TooMany, TooLarge}
 use Rattle.exact.specs.declared.QuotientError.TheVariants as quotient
+
+-- an element that is there, whatever stands for one that is not
+pub there : (xs : List ℕ) (i a b : ℕ) → i < length xs → get_or xs i a ≡ get_or xs i b
+there [] i a b h = absurd (omega arith)
+there (x ∷ xs) zero a b h = refl
+there (x ∷ xs) (suc i) a b h = there xs i a b (omega arith)
 
 pub by_pairs : (fs : List ℕ) → length fs ≤ 4 → product_of fs ≡ get_or fs 0 1 * get_or fs 1 1 * (get_or fs 2 1 * get_or fs 3 1)
 by_pairs [] h = refl

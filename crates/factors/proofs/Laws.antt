@@ -3,10 +3,12 @@ use mathlib.Core.Path.{◌≡◌, sym, ap, ◌∙◌}
 use Prim.Native.Nat.{ℕ, ◌*◌, ◌^◌, ◌<◌, ◌≤◌}
 use native.Mathlib.Nat.{mul_assoc, mul_comm, mul-le-mul_right, le_trans, le_of_eq}
 use native.Mathlib.Omega.{arith}
+use borrow.Author.Tests.{le-ltb, eq-eqb}
 use Rattle.exact.specs.Rounding.{rounded, ◌over◌}
 use Rattle.exact.specs.Quotient.{quotient_of, value_or_zero}
 use Rattle.exact.proofs.Rounding.{at_most}
 use Rattle.exact.proofs.Answers.{value_below}
+use Rattle.factors.specs.Metal.{named, metal_by}
 use Rattle.factors.specs.Places.{digits}
 use Rattle.factors.specs.declared.Places.{Places}
 use Rattle.factors.specs.declared.Places.TheVariants.{Four, Six}
@@ -35,3 +37,8 @@ module _ (places : Places) {num den : ℕ} (h : 0 < den) (small : num ≤ 2 * de
   pub rounded_by_words : value_or_zero (quotient_of (num * 10 ^ digits places) den) ≡ rounded (digits places) (num over den)
   unfolding rounded
   rounded_by_words = value_below (num * 10 ^ digits places) h (2 * 10 ^ digits places) scaled (omega (arith, unit_large places))
+
+-- without a certificate the metal's name counts
+pub by_name : (code certified : ℕ) → code ≤ 4 → certified ≡ 0 → metal_by code certified ≡ named code
+unfolding metal_by
+by_name code certified known none = simp (le-ltb _ _ known, eq-eqb _ _ none)

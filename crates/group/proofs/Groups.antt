@@ -2,7 +2,7 @@
 -- does; where none is found, none qualifies. And what 'qualifies' says of every two values.
 use Rattle.std.specs.Prelude.{Some, None}
 use mathlib.Core.Path.{◌≡◌, refl, sym, ◌∙◌, ap}
-use mathlib.Core.Bool.{true, false}
+use mathlib.Core.Bool.{Bool, true, false}
 use mathlib.Core.List.{List, [], ◌∷◌}
 use Prim.Native.Nat.{ℕ, zero, suc, ◌+◌, ◌*◌, ◌-◌, ◌≤◌, ◌<◌}
 use native.Mathlib.Nat.{mul-le-mul_left, add-sub_cancel_left}
@@ -11,8 +11,8 @@ use borrow.Author.Tests.{leb-true, le-leb}
 use lib.Dec.{leb}
 use lib.ListN.{length, get_or, take, drop, length-take, length-drop}
 use lib.Seq.{take-take, take-nil, get_or-take, get_or-drop}
-use Rattle.octets.specs.FirstToLast.{place_if}
-use Rattle.octets.proofs.FirstToLast.{First, places, nowhere, place_no, place_first, place_none}
+use Rattle.octets.specs.FirstToLast.{first_place, place_if}
+use Rattle.octets.proofs.FirstToLast.{First, places, nowhere, start, place_no, place_first, place_none}
 use Rattle.group.specs.Repeatability.{smallest, largest, qualifies, group_at, qualifies_at, first_group}
 use Rattle.group.proofs.Bounds.{Among, smallest_below, largest_above, smallest_among, largest_among}
 
@@ -35,6 +35,11 @@ group_none xs at = refl
 pub part_is_group : (n : ℕ) (xs : List ℕ) (at : ℕ) → take (at + n - at) (drop at xs) ≡ group_at n xs at
 unfolding group_at
 part_is_group n xs at = rw (add-sub_cancel_left at n)
+
+-- the test of a part of a slice is the test at its place
+pub part_qualifies : (limit n : ℕ) (xs : List ℕ) (at : ℕ) {t u : Bool} → t ≡ qualifies limit (take (at + n - at) (drop at xs)) → t ≡ u → qualifies_at limit n xs at ≡ u
+unfolding qualifies_at
+part_qualifies limit n xs at is told = ap (qualifies limit) (sym (part_is_group n xs at)) ∙ sym is ∙ told
 
 -- of an array of which only the first `count` values are used
 pub group_of_used : (n : ℕ) (xs : List ℕ) (at count : ℕ) → at + n ≤ count → group_at n (take count xs) at ≡ group_at n xs at
@@ -95,6 +100,13 @@ module _ (limit n : ℕ) (xs : List ℕ) where
   found_none all =
       nowhere places (place_if (qualifies_at limit n xs)) (length xs + 1 - n) 0 (λ j _ h. place_no (qualifies_at limit n xs) j (all j (omega arith)))
 
-  -- no values are no group
+  -- no values are no group, and too few values have none
   pub none_of_no_size : n ≡ 0 → None ≡ first_group limit n xs
   none_of_no_size is = sym (found_none (λ j _. qualifies_none limit (group_at n xs j) (ap (λ (m : ℕ). length (group_at m xs j)) is ∙ ap length (group_none xs j))))
+
+  pub none_of_too_few : length xs < n → None ≡ first_group limit n xs
+  none_of_too_few h = sym (found_none (λ j fits. absurd (omega arith)))
+
+  pub search_begins : first_group limit n xs ≡ first_place (qualifies_at limit n xs) (length xs + 1 - n - 0) 0
+  unfolding first_group
+  search_begins = start places (place_if (qualifies_at limit n xs)) (length xs + 1 - n)

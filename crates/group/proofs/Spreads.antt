@@ -49,12 +49,17 @@ by-quotient xs =
 abbrev pub AreEnds : List ℕ → Extremes → Type 0
 AreEnds xs ends = (0 < length xs) × (ends.smallest ≡ smallest xs) × (ends.largest ≡ largest xs)
 
--- no values have no ends, and no spread
-none_of_none : (xs : List ℕ) → length xs ≡ 0 → refused 9 0 ≡ spread_of xs
-unfolding smallest spread_of has_spread
-none_of_none [] is = refl
-none_of_none (x ∷ xs) is = absurd (omega arith)
+-- a smallest of 0 has no spread
+pub none_of_none : (xs : List ℕ) → smallest xs ≡ 0 → refused 9 0 ≡ spread_of xs
+unfolding spread_of has_spread
+none_of_none xs is = ap (λ (n : ℕ). judged (demand (leb 1 n && ltb (spread_in xs) (2 ^ 64)) 9) (record { smallest = smallest xs; largest = largest xs; spread = spread_in xs })) (sym is)
+
+-- and so it is of no values, which have no ends
+no-smallest : (xs : List ℕ) → length xs ≡ 0 → smallest xs ≡ 0
+unfolding smallest
+no-smallest [] is = refl
+no-smallest (x ∷ xs) is = absurd (omega arith)
 
 pub none_told : (xs : List ℕ) (ends : Option Extremes) (why : Refusal) → MatchOption ends (length xs ≡ 0) (AreEnds xs) → Err why ≡ ok_or ends NoGroup → told (Err why) ≡ spread_of xs
-none_told xs None why none is = let number : why ≡ NoGroup = cc in rw number (none_of_none xs none)
+none_told xs None why none is = let number : why ≡ NoGroup = cc in rw number (none_of_none xs (no-smallest xs none))
 none_told xs (Some ends) why some is = cc

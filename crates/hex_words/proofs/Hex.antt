@@ -10,10 +10,10 @@ use lib.Dec.{eqb, leb}
 use Rattle.std.specs.Prelude.{Some, None, is_some}
 use Rattle.std.specs.List.{list_all}
 use Rattle.std.specs.Int.{w32, from_be_bytes}
-use lib.ListN.{length, get_or, take, drop, set}
-use lib.Seq.{paste, paste-suc, length-paste, take-length}
+use lib.ListN.{length, get_or, take, drop, set, drop_of_length-le}
+use lib.Seq.{drop-cons, paste, paste-suc, length-paste, take-length}
 use Rattle.hex_words.specs.Hex.{hex_of, are_hex, is_dash, are_bytes, bytes_of, pair_of, pairs, is_single, most_first}
-use Rattle.octets.specs.Octets.{written_at}
+use Rattle.octets.specs.Octets.{number_at, long_at, written_at}
 use Rattle.octets.proofs.Laws.{written_fits, written_whole}
 use Rattle.words.specs.Written.{place_after}
 use Rattle.words.proofs.Written.{place_fits}
@@ -25,6 +25,30 @@ hex_digit b l h = rw (le-leb 48 b l, le-leb b 57 h)
 pub hex_letter : (b : ℕ) → 97 ≤ b → b ≤ 102 → hex_of b ≡ b - 87
 unfolding hex_of
 hex_letter b l h = rw (le-leb 48 b (omega arith), lt-leb b 57 (omega arith), le-leb 97 b l, le-leb b 102 h)
+
+pub hex_low : (b : ℕ) → b < 48 → hex_of b ≡ 16
+unfolding hex_of
+hex_low b h = rw (lt-leb 48 b h, lt-leb 97 b (omega arith))
+
+pub hex_between : (b : ℕ) → 57 < b → b < 97 → hex_of b ≡ 16
+unfolding hex_of
+hex_between b l h = rw (le-leb 48 b (omega arith), lt-leb b 57 l, lt-leb 97 b h)
+
+pub hex_high : (b : ℕ) → 102 < b → hex_of b ≡ 16
+unfolding hex_of
+hex_high b h = rw (le-leb 48 b (omega arith), lt-leb b 57 (omega arith), le-leb 97 b (omega arith), lt-leb b 102 h)
+
+pub all_step : (w : List ℕ) (i : ℕ) → i < length w → hex_of (get_or w i 0) ≤ 15 → are_hex (drop i w) ≡ are_hex (drop (i + 1) w)
+unfolding are_hex
+all_step w i h is = rw (add-one i, drop-cons w i 0 h, le-leb (hex_of (get_or w i 0)) 15 is)
+
+pub all-stop : (w : List ℕ) (i : ℕ) → i < length w → 15 < hex_of (get_or w i 0) → are_hex (drop i w) ≡ false
+unfolding are_hex
+all-stop w i h other = rw (drop-cons w i 0 h, lt-leb (hex_of (get_or w i 0)) 15 other)
+
+pub all_end : (w : List ℕ) (i : ℕ) → length w ≤ i → are_hex (drop i w) ≡ true
+unfolding are_hex
+all_end w i h = rw (drop_of_length-le w {i = i} h)
 
 abbrev pub is_digit : ℕ → Bool
 is_digit b = leb (hex_of b) 15
@@ -93,15 +117,25 @@ all_pairs to w now_is i room h is =
 pub as_long : (to w now_is : List ℕ) (i : ℕ) → length (pairs w) ≤ length to → i ≤ length (pairs w) → now_is ≡ paste to 0 (pairs w) i → length now_is ≡ length to
 as_long to w now_is i room h is = ap length is ∙ length-paste to 0 (pairs w) i (omega arith) h
 
--- four bytes, most significant first
-turned : (s : List ℕ) → length s ≡ 4 → from_be_bytes w32 s ≡ most_first 0 s
-unfolding most_first
+-- four bytes, most significant first, read turned round
+turned : (s : List ℕ) → length s ≡ 4 → long_at (get_or s 3 0 ∷ get_or s 2 0 ∷ get_or s 1 0 ∷ get_or s 0 0 ∷ []) 0 ≡ most_first 0 s
+unfolding long_at number_at most_first
 turned [] is = absurd (omega arith)
 turned (a ∷ []) is = absurd (omega arith)
 turned (a ∷ b ∷ []) is = absurd (omega arith)
 turned (a ∷ b ∷ c ∷ []) is = absurd (omega arith)
 turned (a ∷ b ∷ c ∷ d ∷ []) is = omega arith
 turned (a ∷ b ∷ c ∷ d ∷ e ∷ s) is = absurd (omega arith)
+
+-- and joined
+joined : (s : List ℕ) → length s ≡ 4 → from_be_bytes w32 s ≡ most_first 0 s
+unfolding most_first
+joined [] is = absurd (omega arith)
+joined (a ∷ []) is = absurd (omega arith)
+joined (a ∷ b ∷ []) is = absurd (omega arith)
+joined (a ∷ b ∷ c ∷ []) is = absurd (omega arith)
+joined (a ∷ b ∷ c ∷ d ∷ []) is = omega arith
+joined (a ∷ b ∷ c ∷ d ∷ e ∷ s) is = absurd (omega arith)
 
 both : (a b : Bool) → (a && b) ≡ true → (a ≡ true) × (b ≡ true)
 both true b is = (refl, is)
@@ -123,5 +157,8 @@ module _ (w : List ℕ) (is : is_single w ≡ true) where
   pub single_bytes : written_at (0 ∷ 0 ∷ 0 ∷ 0 ∷ []) 0 (bytes_of w) ≡ pairs w
   single_bytes = ap (written_at (0 ∷ 0 ∷ 0 ∷ 0 ∷ []) 0) (bytes_some w spelt) ∙ written_whole (0 ∷ 0 ∷ 0 ∷ 0 ∷ []) (pairs w) four
 
-  pub most-first : from_be_bytes w32 (pairs w) ≡ most_first 0 (pairs w)
+  pub most-first : long_at (get_or (pairs w) 3 0 ∷ get_or (pairs w) 2 0 ∷ get_or (pairs w) 1 0 ∷ get_or (pairs w) 0 0 ∷ []) 0 ≡ most_first 0 (pairs w)
   most-first = turned (pairs w) four
+
+  pub most_joined : from_be_bytes w32 (pairs w) ≡ most_first 0 (pairs w)
+  most_joined = joined (pairs w) four

@@ -1,15 +1,14 @@
 -- What each field of a single's bits makes of o + k·x: what the code's branches cite.
 use mathlib.Core.Path.{◌≡◌, refl, sym, ap, ◌∙◌, subst⁻¹}
-use mathlib.Core.Bool.{Bool, true, false}
+use mathlib.Core.Bool.{Bool, true, false, not, true≢false}
 use Prim.Native.Nat.{ℕ, zero, suc, ◌+◌, ◌-◌, ◌*◌, ◌^◌, ◌≤◌, ◌<◌}
 use native.Mathlib.Nat.{mul-le-mul, mul_assoc, one-mul}
 use native.Mathlib.Omega.{arith}
-use lib.Dec.{lit<}
+use lib.Dec.{T, lit<}
 use lib.IntN.{ℤ, pos, nat_abs, ◌+ℤ◌}
-use lib.Ieee.{Float, nan, inf, fin, binary32, of_bits}
+use lib.Ieee.{Float, nan, inf, fin, binary32, is_nan, of_bits}
 use lib.Ieee.Scale.{finite}
 use lib.Pow.{pow_pos, pow_mono, pow-add}
-use Rattle.std.specs.Float.{float_is_finite}
 use Rattle.exact.specs.Rounding.{rounded_div}
 use Rattle.live.specs.Exact.{sided}
 use Rattle.live.specs.Rounding.{away_from_zero}
@@ -96,9 +95,15 @@ whole_far o k b ho hk l h =
     parts : (f : ℕ) {e : ℕ} → f ≡ suc e → 150 ≤ f → e ≡ f - 150 + 149
     parts f is l = omega arith
 
--- the kit's test of a single is the paper's
-pub is_finite_is : (x : Float) → float_is_finite x ≡ finite x
-unfolding float_is_finite
-is_finite_is nan = refl
-is_finite_is (inf s) = refl
-is_finite_is (fin s m e) = refl
+-- a NaN is no number
+pub nan_not_finite : (x : Float) → is_nan x ≡ true → finite x ≡ false
+unfolding is_nan
+nan_not_finite nan h = refl
+nan_not_finite (inf s) h = absurd (true≢false (sym h))
+nan_not_finite (fin s m e) h = absurd (true≢false (sym h))
+
+pub finite_no_nan : (x : Float) → finite x ≡ true → T (not (is_nan x))
+unfolding is_nan
+finite_no_nan nan h = absurd (true≢false (sym h))
+finite_no_nan (inf s) h = tt
+finite_no_nan (fin s m e) h = tt

@@ -1,9 +1,9 @@
 -- o + k·x depends on the number alone, not on the fraction that it is written as; and its two ends:
 -- a number so near to zero that o is left, and whole numbers, which need no rounding.
 use mathlib.Core.Path.{◌≡◌, sym, ap, ◌∙◌}
-use mathlib.Core.Bool.{Bool, true, false}
+use mathlib.Core.Bool.{Bool, true, false, true≢false}
 use mathlib.Core.Logic.{by_cases}
-use Prim.Native.Nat.{ℕ, suc, ◌-◌, ◌*◌, ◌<◌}
+use Prim.Native.Nat.{ℕ, suc, ◌+◌, ◌-◌, ◌*◌, ◌<◌}
 use native.Mathlib.Nat.{mul_comm, mul_assoc, mul_right_comm, add-mul, mul-sub, mul-pos, mul-le-mul_right, mul-lt-mul_of_pos_right, lt_of_not-le}
 use native.Mathlib.Decide.{dec_le}
 use native.Mathlib.Omega.{arith}
@@ -11,6 +11,7 @@ use lib.Dec.{lit<}
 use lib.IntN.{ℤ, pos, negsuc, nat_abs, ◌+ℤ◌, ◌-ℤ◌, ◌*ℤ◌, +ℤ_comm, +ℤ-neg_ℤ_cancel}
 use lib.Ieee.{Float, nan, inf, fin, up, down}
 use lib.Ieee.Exact.{HasValue}
+use lib.Ieee.Scale.{finite}
 use lib.Ieee.Fits.{down_pos}
 use Rattle.exact.proofs.Rounding.{cancelled}
 use Rattle.live.specs.Exact.{sided, numerator, denominator}
@@ -76,6 +77,13 @@ module _ (o k : ℕ) (x : Float) where
   pub whole_only : (z : ℤ) → Nearest (pos (o * denominator x) +ℤ pos k *ℤ numerator x) (denominator x) z → z ≡ whole_of o k x
   unfolding whole_of
   whole_only z r = away_only _ (denominator x) z (denominator_pos x) r
+
+-- of what is not finite o is left
+pub whole_of_none : (o k : ℕ) (x : Float) → finite x ≡ false → whole_of o k x ≡ pos o
+unfolding whole_of numerator denominator
+whole_of_none o k nan h = away_whole (pos (o * 1 + k * 0)) ∙ ap pos (omega arith)
+whole_of_none o k (inf s) h = away_whole (pos (o * 1 + k * 0)) ∙ ap pos (omega arith)
+whole_of_none o k (fin s m e) h = absurd (true≢false h)
 
 -- b / d is under a half: what is left is o
 pub summed_near : (o : ℕ) (s : Bool) (b : ℕ) {d : ℕ} → 2 * b < d → summed (o * d) s b d ≡ pos o

@@ -4,6 +4,7 @@
 ghost use Rattle.std.specs.Prelude.{◌≡◌, ◌/◌, ◌%◌, ◌^◌, ◌≤◌, ◌<◌, pos, ◌+ℤ◌};
 ghost use Rattle.std.specs.Float.{binary32};
 ghost use Rattle.std.specs.Float.Ieee.{of_bits};
+ghost use Rattle.std.specs.Float.Ieee.Scale.{finite};
 ghost use Rattle.exact.specs.Rounding.{rounded_div};
 ghost use Rattle.refusals.specs.Told.{demand, judged};
 ghost use Rattle.refusals.specs.Answered.{told};
@@ -98,13 +99,21 @@ fn round_scaled(bits: u32, offset: u16, times: u16) -> Sided
     }
 }
 
+// By the bits: the library's test subtracts, and an infinity less itself is an invalid operation.
+fn is_finite(x: f32) -> bool
+    ensures { result ≡ finite x }
+{
+    // A NaN's bits are no number's.
+    !x.is_nan() && x.to_bits() / FIELD % 256 < 255
+}
+
 // A single that is not finite is told of before its range. From field 150 on the size of x is 2^23 or more,
 // and o is under 2^16: no range reaches so far.
 pub(crate) fn round(x: f32, offset: u16, times: u16) -> Result<i16, Refusal>
     requires { 0 < times }
     ensures { told result ≡ single_of held offset times x }
 {
-    refusals::demand(x.is_finite(), Refusal::ReadingNotFinite)?;
+    refusals::demand(is_finite(x), Refusal::ReadingNotFinite)?;
     let bits = x.to_bits();
     if bits / FIELD % 256 < 150 {
         round_scaled(bits, offset, times).to_word()

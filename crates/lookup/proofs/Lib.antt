@@ -6,3 +6,4 @@ pub mod Rank
 pub mod Sound
 pub mod Outcome
 pub mod Passed
+pub mod Part

@@ -1,5 +1,5 @@
 -- What the one pass over a table has found so far, one record more of it, and what it has found at the end.
-use Rattle.std.specs.Prelude.{Option, None, Some}
+use Rattle.std.specs.Prelude.{Option, None, Some, unwrap_or}
 use mathlib.Core.Path.{◌≡◌, refl, sym, ap, ◌∙◌}
 use mathlib.Core.Bool.{Bool, true, false}
 use mathlib.Core.Logic.{◌⊎◌, ⊎_elim, by_cases}
@@ -7,9 +7,7 @@ use mathlib.Core.List.{List}
 use Prim.Native.Nat.{ℕ, suc, ◌+◌, ◌<◌}
 use native.Mathlib.Decide.{dec_lt}
 use native.Mathlib.Omega.{arith}
-use borrow.Author.Tests.{eqb-true}
-use lib.Dec.{eqb}
-use Rattle.std.specs.Option.{option_eq}
+use borrow.Author.Tests.{eqb-true, eq-eqb, ne_eqb}
 use Rattle.refusals.specs.Told.{fine}
 use Rattle.octets.specs.FirstToLast.{first_place, place_if}
 use Rattle.octets.proofs.FirstToLast.{places, nowhere, place_no, first-place}
@@ -23,11 +21,16 @@ pub record Passed (s : List ℕ) (wanted : Option ℕ) (before : ℕ) (place : O
   pub only : (k : ℕ) → k < i → is_wanted s wanted k ≡ true → place ≡ Some k
   pub has : (k : ℕ) → place ≡ Some k → (k < i) × (is_wanted s wanted k ≡ true)
 
--- the code's test says whether the record is the one wanted
-pub test_is : (s : List ℕ) (wanted : Option ℕ) (i : ℕ) {rank : ℕ} → rank_at s i ≡ rank → option_eq eqb wanted (Some rank) ≡ is_wanted s wanted i
+-- the code's test of a number above 0, where 0 stands for none, says whether the record is the one wanted
+pub asked_for : (s : List ℕ) (wanted : Option ℕ) (i : ℕ) → 0 < rank_at s i → rank_at s i ≡ unwrap_or wanted 0 → is_wanted s wanted i ≡ true
 unfolding is_wanted
-test_is s None i is = refl
-test_is s (Some asked) i is = ap (eqb asked) (sym is)
+asked_for s None i above is = absurd (omega arith)
+asked_for s (Some asked) i above is = eq-eqb asked (rank_at s i) (sym is)
+
+pub not_asked_for : (s : List ℕ) (wanted : Option ℕ) (i : ℕ) → (rank_at s i ≡ unwrap_or wanted 0 → ⊥) → is_wanted s wanted i ≡ false
+unfolding is_wanted
+not_asked_for s None i other = refl
+not_asked_for s (Some asked) i other = ne_eqb asked (rank_at s i) (λ is. other (sym is))
 
 same_rank : (s : List ℕ) (wanted : Option ℕ) (j k : ℕ) → is_wanted s wanted j ≡ true → is_wanted s wanted k ≡ true → rank_at s j ≡ rank_at s k
 unfolding is_wanted

@@ -9,13 +9,15 @@ use native.Mathlib.Omega.{arith}
 use borrow.Author.Tests.{lt-ltb, le-ltb, eq-eqb, ne_eqb}
 use lib.Dec.{ltb}
 use lib.IntN.{ℤ}
-use Rattle.ranges.specs.Table.{temperature_ok}
+use Rattle.ranges.specs.Table.{temperature_ok, gravity_ok}
+use Rattle.ranges.proofs.Laws.{both_first}
 use Rattle.lookup.specs.HalfDegree.{half_degree, half_degree_signed}
 use Rattle.lookup.specs.Table.{follows}
 use Rattle.lookup.specs.Pair.{asked_ok}
 use Rattle.lookup.specs.Rank.{rank_of, rank_asked, rank_if}
 use Rattle.lookup.specs.declared.Entry.{Entry}
 use Rattle.lookup.proofs.Counted.{counted, counted_least, counted_most, one_count, same_test, colder}
+use Rattle.lookup.proofs.HalfDegree.{temperature_stays}
 
 pub rank_above_zero : (t : ℤ) (g : ℕ) → temperature_ok t ≡ true → 0 < rank_of t g
 unfolding rank_of
@@ -66,6 +68,19 @@ unfolding rank_if
 ranked_not rank true is = cc
 ranked_not rank false is = refl
 
+-- what is asked is in range exactly where its number is not 0
+pub asked_tells : (t : ℤ) (g : ℕ) → ltb 0 (rank_asked t g) ≡ asked_ok t g
+unfolding rank_asked asked_ok
+asked_tells t g = by-test (asked_ok t g) refl
+  where
+    by-test : (b : Bool) → asked_ok t g ≡ b → ltb 0 (rank_asked t g) ≡ asked_ok t g
+    by-test true is = rw is (lt-ltb 0 (rank_of (half_degree_signed t) (half_degree g)) (rank_above_zero (half_degree_signed t) (half_degree g) (temperature_stays t (both_first (temperature_ok t) (gravity_ok g) is))))
+    by-test false is = rw is
+
 pub asked_is : (t : ℤ) (g : ℕ) → asked_ok t g ≡ true → rank_asked t g ≡ rank_of (half_degree_signed t) (half_degree g)
 unfolding rank_asked
 asked_is t g ok = rw ok
+
+pub not_asked : (t : ℤ) (g : ℕ) → asked_ok t g ≡ false → rank_asked t g ≡ 0
+unfolding rank_asked
+not_asked t g is = rw is

@@ -65,10 +65,6 @@ module _ (s : List ℕ) where
   unfolding entry_fault
   by_rank i before = ap (λ (ok : Bool). demand_at ok 32 (i + 1)) (judged_by_rank i before)
 
-  pub faulty : (i : ℕ) → record_ok s i ≡ false → entry_fault s i ≡ fault 32 (i + 1)
-  unfolding entry_fault
-  faulty i bad = ap (λ (ok : Bool). demand_at (ok && order_ok s i) 32 (i + 1)) bad
-
   -- a record at fault behind none is the first
   pub first_fault : {number at : ℕ} (n i : ℕ) → i < n → NoFault s i → entry_fault s i ≡ fault number at → scan (entry_fault s) n 0 ≡ fault number at
   first_fault n i h before is = found faults (entry_fault s) n 0 (record { place = i; from = omega arith; below = omega arith; gives = is; before = λ j le l. before j l }) (λ y. refl)

@@ -17,7 +17,7 @@ rank_at s i = cond (record_ok s i) (rank_of (entry_at s i).temperature (entry_at
 unfoldable pub rank_asked : ℤ → ℕ → ℕ
 rank_asked t g = cond (asked_ok t g) (rank_of (half_degree_signed t) (half_degree g)) 0
 
--- as the code has it: none where the record is faulty, or what is asked out of range
+-- as the code has it: none where what is asked is out of range
 unfoldable pub rank_if : Bool → ℕ → Option ℕ
 rank_if ok rank = cond ok (Some rank) None
 

@@ -7,7 +7,7 @@ ghost use Rattle.refusals.specs.Told.{judged};
 ghost use Rattle.ranges.specs.Table.{temperature_ok};
 ghost use Rattle.octets.specs.FirstToLast.{scan, first_place};
 ghost use Rattle.lookup.specs.HalfDegree.{half_degree};
-ghost use Rattle.lookup.specs.Table.{entry_at, entry_ok, record_ok};
+ghost use Rattle.lookup.specs.Table.{entry_at, entry_ok};
 ghost use Rattle.lookup.specs.Pair.{asked_ok};
 ghost use Rattle.lookup.specs.Rank.{rank_if, rank_at, rank_asked, is_wanted};
 ghost use Rattle.lookup.specs.Answers.{entry_fault, record_found, look_up_of};
@@ -57,16 +57,27 @@ fn is_entry(entry: Entry) -> bool
     false
 }
 
-// One number of a record, which rises by gravity and then temperature; none of a faulty record.
-fn rank_at(s: &[u8], i: usize) -> Option<u64>
+// One number of a record, which rises by gravity and then temperature; 0 of a faulty record.
+fn rank_at(s: &[u8], i: usize) -> u64
     requires { i < 4096 }
-    ensures { result ≡ rank_if (record_ok s.now i) (rank_at s.now i) }
+    ensures { result ≡ rank_at s.now i }
 {
     let entry = decode(s, i);
     if is_entry(entry) & (octets::word_at(s, 8 * i + 6) == 0) {
-        return Some(4096 * entry.gravity as u64 + count_up(entry.temperature));
+        return 4096 * entry.gravity as u64 + count_up(entry.temperature);
     }
-    None
+    0
+}
+
+// The same, of the record taken out of the table where it is whole: its fields are then read with no test of the table's end each.
+fn rank_of_part(s: &[u8], i: usize) -> u64
+    requires { i < 4096 }
+    ensures { result ≡ rank_at s.now i }
+{
+    match s.get(8 * i..8 * i + 8) {
+        Some(record) => rank_at(record, 0),
+        None => rank_at(s, i),
+    }
 }
 
 // Tenths to the nearest half degree.
@@ -93,14 +104,14 @@ fn pass_over(s: &[u8], entries: usize, wanted: Option<u64>) -> Result<Option<usi
     requires { entries ≤ 4096 }
     ensures { told result ≡ judged (scan (entry_fault s.now) entries 0) (first_place (is_wanted s.now wanted) entries 0) }
 {
-    // Every record's number is above 0.
+    // No good record's number is 0.
+    let asked = wanted.unwrap_or(0);
     let mut before = 0;
     let mut place = None;
     for i in 0..entries {
-        let fault = Refusal::TableRecord((i + 1) as u16);
-        let rank = rank_at(s, i).ok_or(fault)?;
-        refusals::demand(before < rank, fault)?;
-        if wanted == Some(rank) {
+        let rank = rank_of_part(s, i);
+        refusals::demand(before < rank, Refusal::TableRecord((i + 1) as u16))?;
+        if rank == asked {
             place = Some(i);
         }
         before = rank;

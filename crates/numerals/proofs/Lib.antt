@@ -1,3 +1,3 @@
 pub mod Numbers
 pub mod Printed
-pub mod Turned
+pub mod Signs

@@ -8,7 +8,7 @@ use Prim.Native.Nat.{ℕ, zero, suc, ◌+◌, ◌-◌, ◌≤◌, ◌<◌}
 use native.Mathlib.Nat.{sub-zero, sub-eq-zero_of_le, eq-or-lt_of_le}
 use native.Mathlib.Omega.{arith}
 use Rattle.refusals.specs.Told.{Fault, fine, fault, or_else}
-use Rattle.octets.specs.FirstToLast.{first_to_last, scan, or_next, place_if, first_place}
+use Rattle.octets.specs.FirstToLast.{first_to_last, scan, holds_all, or_next, place_if, first_place}
 
 -- what makes `or` a search: `nothing` passes to the next place, and anything else ends it
 pub record Search {A : Type 0} (or : A → A → A) (nothing : A) : Type 0 where
@@ -147,6 +147,9 @@ test_ends false = inr (λ y. refl)
 
 pub tests : Search ◌&&◌ true
 tests = record { passes = λ y. refl; ends = test_ends }
+
+pub all_hit : {x : Bool} (test : ℕ → Bool) (n i : ℕ) → i < n → test i ≡ false → x ≡ holds_all test (n - i) i → x ≡ false
+all_hit test n i h is at = hit tests test n i h (rw is (λ y. refl)) at ∙ is
 
 -- ---- the first place that passes a test
 

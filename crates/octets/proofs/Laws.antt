@@ -7,10 +7,11 @@ use native.Mathlib.Nat.{add_assoc, add-zero, zero-add, pow-succ', div-div-eq-div
 use Rattle.std.specs.Int.{w16, w32, w64, from_le_bytes, bytes_low_first}
 use native.Mathlib.Numerals.{add-one}
 use native.Mathlib.Omega.{arith}
-use borrow.Author.Tests.{le-leb, lt-leb, eqb-true, eq-eqb}
+use borrow.Author.Tests.{lt-ltb, le-ltb, le-leb, lt-leb, eqb-true, eq-eqb}
+use lib.IntN.{pos, negsuc}
 use lib.ListN.{length, get_or, take, drop, replicate, length-append, length-drop, length-replicate, get_or-replicate, take-append-drop, drop_of_length-le, get_or-eq_default}
 use lib.Seq.{get_or-append_seam, append_snoc, drop-cons, drop-drop, take_at, drop_at, length-take-le, get_or-take, get_or-drop, ext_get_or}
-use Rattle.octets.specs.Octets.{number_at, byte_at, word_at, is_zero_at, zero_between, bytes_of, written_at}
+use Rattle.octets.specs.Octets.{number_at, byte_at, word_at, long_at, quad_at, signed_of, is_zero_at, zero_between, bytes_of, written_at}
 use Rattle.octets.proofs.FirstToLast.{tests, empty, nowhere}
 
 -- a list of bytes
@@ -39,6 +40,18 @@ number_below (suc n) s at small =
 pub word-is : (s : List ℕ) (at : ℕ) → word_at s at ≡ byte_at s at + 256 * byte_at s (at + 1)
 unfolding word_at byte_at number_at
 word-is s at = omega arith
+
+-- four bytes are two words
+pub long_is : (s : List ℕ) (at : ℕ) → long_at s at ≡ word_at s at + 65536 * word_at s (at + 2)
+unfolding word_at long_at number_at
+long_is s at = rw (add_assoc at 1 1) (omega arith)
+
+-- eight bytes are two fours
+pub quad_is : (s : List ℕ) (at : ℕ) → quad_at s at ≡ long_at s at + 4294967296 * long_at s (at + 4)
+unfolding quad_at long_at number_at
+quad_is s at =
+    let four : at + 1 + 1 + 1 + 1 ≡ at + 4 = omega arith in
+    rw four (omega arith)
 
 -- the same bytes make the same number
 pub number_same : (n : ℕ) (s t : List ℕ) (a b : ℕ) → ((j : ℕ) → j < n → get_or s (a + j) 0 ≡ get_or t (b + j) 0) → number_at n s a ≡ number_at n t b
@@ -125,6 +138,17 @@ pub length_bytes : (n x : ℕ) → length (bytes_of n x) ≡ n
 unfolding bytes_of
 length_bytes zero x = refl
 length_bytes (suc n) x = ap suc (length_bytes n (x / 256))
+
+-- a signed word by its sign
+pub signed_low : (x : ℕ) → x < 32768 → signed_of x ≡ pos x
+unfolding signed_of
+signed_low x h = rw (lt-ltb x 32768 h)
+
+pub signed_high : (x : ℕ) → 32768 ≤ x → x < 65536 → signed_of x ≡ negsuc (65535 - x)
+unfolding signed_of
+signed_high x h l =
+    let more : 65536 - x ≡ suc (65535 - x) = omega arith in
+    rw (le-ltb x 32768 h, more)
 
 -- 'bytes from a to b are zero', byte by byte
 pub zero_each : (s : List ℕ) (a b : ℕ) → zero_between s a b ≡ true → (k : ℕ) → a ≤ k → k < b → get_or s k 0 ≡ 0

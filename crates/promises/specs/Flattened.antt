@@ -5,16 +5,24 @@ use Rattle.api.specs.Flat.{flat_factor, flat_report, flat_run, flat_fill, flat_p
 use Rattle.refusals.specs.declared.Refusal.{Refusal}
 use Rattle.refusals.specs.Answered.{told}
 use Rattle.exact.specs.declared.QuotientError.{QuotientError}
+use Rattle.draw.specs.Volumes.{counted, held}
+use Rattle.draw.specs.declared.DrawVolumes.{DrawVolumes}
+use Rattle.api.specs.declared.water.EndakuroPasses.{EndakuroPasses}
 
 abbrev pub LosesNothing : {A F : Type 0} → (Told A → F) → Type 0
 LosesNothing {A} flat = (a b : Result A Refusal) → flat (told a) ≡ flat (told b) → a ≡ b
+
+-- a draw's volumes, as the exports flatten what is answered of them
+abbrev pub flat_found : Told DrawVolumes → EndakuroPasses
+flat_found t = flat_passes (counted t) (held t)
 
 pub record Flattened : Type 0 where
   pub factor_loses_nothing : LosesNothing flat_factor
   pub report_loses_nothing : LosesNothing flat_report
   pub run_loses_nothing : LosesNothing flat_run
   pub fill_loses_nothing : LosesNothing flat_fill
-  -- the answer and the volumes
+  pub volumes_lose_nothing : LosesNothing flat_found
+  -- whatever count and volumes are flattened
   pub passes_lose_nothing : (a b : Result ℕ Refusal) (v w : List ℕ) → flat_passes (told a) v ≡ flat_passes (told b) w → (a ≡ b) × (v ≡ w)
   pub draw_loses_nothing : LosesNothing flat_draw
   pub ticket_loses_nothing : LosesNothing flat_volumes

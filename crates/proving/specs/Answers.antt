@@ -1,4 +1,4 @@
--- What the answers tell: the paper's number and record, or what was found.
+-- What an answer tells of a refusal: the paper's number and record, or none.
 use Rattle.std.specs.Prelude.{Result, Ok, Err}
 use Rattle.refusals.specs.Table.{number_of, record_of}
 use Rattle.refusals.specs.Told.{Fault, fine, fault}

@@ -65,19 +65,26 @@ impl Input<'_> {
         self.records.len() / run::records::size(self.form)
     }
 
-    // 1, 3, 4 and 4: the size of what is lent, the prover's settings, K and the limit.
+    // 1, 3, 4 and 4: the size of what is lent, the prover's settings, K and the limit. All four are of plain numbers, and none stands on the
+    // one before it: `or_else` gives the first that fails.
     fn judge_settings(self) -> Result<(), Refusal>
         ensures { fault_of result ≡ settings_fault self.entry.prover self.entry.k self.entry.limit self.entry.form (length self.entry.records.now) }
     {
         let size = run::records::size(self.form);
         let lent = self.records.len();
-        refusals::demand(
-            (lent % size == 0) & ranges::are_runs((lent / size) as u64),
-            Refusal::Records,
-        )?;
-        refusals::demand(factors::is_prover(self.prover), Refusal::ProverSetting)?;
-        refusals::demand(ranges::is_k_factor(self.k as u64), Refusal::KFactorOrLimit)?;
-        refusals::demand(ranges::is_limit(self.limit as u64), Refusal::KFactorOrLimit)
+        refusals::or_else(
+            refusals::demand(
+                (lent % size == 0) & ranges::are_runs((lent / size) as u64),
+                Refusal::Records,
+            ),
+            refusals::or_else(
+                refusals::demand(factors::is_prover(self.prover), Refusal::ProverSetting),
+                refusals::or_else(
+                    refusals::demand(ranges::is_k_factor(self.k as u64), Refusal::KFactorOrLimit),
+                    refusals::demand(ranges::is_limit(self.limit as u64), Refusal::KFactorOrLimit),
+                ),
+            ),
+        )
     }
 
     // The records, first to last.

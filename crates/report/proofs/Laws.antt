@@ -1,4 +1,4 @@
--- When the writer and the reader accept, exactly; and that an answer told is the answer.
+-- When the writer and the reader accept, exactly; and the five factors judged one by one.
 use mathlib.Core.Path.{◌≡◌, refl, ap}
 use mathlib.Core.Bool.{Bool, true, not, ◌&&◌}
 use Rattle.std.specs.List.{list_all}

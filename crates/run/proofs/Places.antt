@@ -49,18 +49,18 @@ module _ (s : List ℕ) {at : ℕ} (h : length s ≤ at) where
   unnamed_past : (o n m : ℕ) → zero_between s (length s + o + n) (length s + m) ≡ zero_between s (at + o + n) (at + m)
   unnamed_past o n m = none_left (length s + o + n) (length s + m) (omega arith) ∙ sym (none_left (at + o + n) (at + m) (omega arith))
 
-module _ (form : Form) (s : List ℕ) (i : ℕ) {at : ℕ} (is : at ≡ min (size_of form * i) (length s)) where
-  -- the record at place i begins at a byte, or past the end, which then stands for it
-  begins : (at ≡ size_of form * i) ⊎ ((at ≡ length s) × (length s ≤ size_of form * i))
-  begins = by_cases (dec_lt (length s) (size_of form * i)) (λ past. inr (omega arith, omega arith)) (λ within. inl (omega arith))
+-- the record at place i begins at a byte; past the end, where every byte reads as 0, the end stands for it
+abbrev pub BeginsAt : Form → List ℕ → ℕ → ℕ → Type 0
+BeginsAt form s i at = (at ≡ size_of form * i) ⊎ ((at ≡ length s) × (length s ≤ size_of form * i))
 
+module _ (form : Form) (s : List ℕ) (i : ℕ) {at : ℕ} (place : BeginsAt form s i at) where
   -- the record is read the same
   pub begun : run_from form s at ≡ run_from form s (size_of form * i)
   begun =
       ⊎_elim
       (λ (is : at ≡ size_of form * i). ap (run_from form s) is)
       (λ (past : (at ≡ length s) × (length s ≤ size_of form * i)). ap (run_from form s) past.0 ∙ run_past s past.1 form)
-      begins
+      place
 
   -- and so are its unnamed bytes
   pub begun_unnamed : (o n m : ℕ) → zero_between s (at + o + n) (at + m) ≡ zero_between s (size_of form * i + o + n) (size_of form * i + m)
@@ -68,7 +68,18 @@ module _ (form : Form) (s : List ℕ) (i : ℕ) {at : ℕ} (is : at ≡ min (siz
       ⊎_elim
       (λ (is : at ≡ size_of form * i). ap (λ (b : ℕ). zero_between s (b + o + n) (b + m)) is)
       (λ (past : (at ≡ length s) × (length s ≤ size_of form * i)). ap (λ (b : ℕ). zero_between s (b + o + n) (b + m)) past.0 ∙ unnamed_past s past.1 o n m)
-      begins
+      place
+
+-- the code takes the lesser of the record's place and the end, and reads the same
+module _ (form : Form) (s : List ℕ) (i : ℕ) {at : ℕ} (is : at ≡ min (size_of form * i) (length s)) where
+  pub begins : BeginsAt form s i at
+  begins = by_cases (dec_lt (length s) (size_of form * i)) (λ past. inr (omega arith, omega arith)) (λ within. inl (omega arith))
+
+  pub begun_min : run_from form s at ≡ run_from form s (size_of form * i)
+  begun_min = begun form s i begins
+
+  pub begun_unnamed_min : (o n m : ℕ) → zero_between s (at + o + n) (at + m) ≡ zero_between s (size_of form * i + o + n) (size_of form * i + m)
+  begun_unnamed_min = begun_unnamed form s i begins
 
 -- the unnamed bytes of the first record
 pub first_unnamed : (form : Form) (s : List ℕ) → zero_between s (shift_of form + 24) (size_of form) ≡ unnamed_ok form s 0

@@ -82,7 +82,7 @@ fn correct(volume: u64, cpl: u32, list: &[u32]) -> Corrected
     requires { (volume ≤ 100000000) × (length list.now ≤ 4) × (combined_at 4 list.now ≤ 160000) }
     ensures { (result ≡ corrected_by volume cpl list.now) × (result.volume ≤ 1600000000) }
 {
-    let factor = factors::combine(list, Places::Four).unwrap_or(0);
+    let factor = factors::combined_or_zero(factors::combine(list, Places::Four));
     Corrected {
         cpl: cpl as u64,
         factor,

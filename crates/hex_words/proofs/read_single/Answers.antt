@@ -5,7 +5,7 @@ use mathlib.Core.List.{List}
 use Prim.Native.Nat.{ℕ}
 use Rattle.std.specs.Int.{w32, from_be_bytes}
 use Rattle.hex_words.specs.Hex.{is_single, pairs, most_first, single_of}
-use Rattle.hex_words.proofs.Hex.{single_bytes, most-first}
+use Rattle.hex_words.proofs.Hex.{single_bytes, most_joined}
 use Rattle.hex_words.proofs.read_single.Goals as goal
 
 by-test : (w : List ℕ) {t : Bool} → is_single w ≡ t → cond t (most_first 0 (pairs w)) 0 ≡ single_of w
@@ -20,5 +20,5 @@ returns c = let w = c.args.word.now in
     let is = sym c.is_single.ensures ∙ c.if-not-is_single.false in
     c.from_be_bytes.ensures
     ∙ ap (from_be_bytes w32) (c.read_bytes-count.ensures.left ∙ single_bytes w is)
-    ∙ most-first w is
+    ∙ most_joined w is
     ∙ by-test w is

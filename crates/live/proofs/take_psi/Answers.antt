@@ -6,7 +6,7 @@ use Rattle.refusals.specs.Answered.{told}
 use Rattle.refusals.proofs.Laws.{judged_fine, judged_fault}
 use Rattle.live.specs.Live.{whole_of, single_of, psi_ok, pressure_of}
 use Rattle.live.specs.Word.{held}
-use Rattle.live.proofs.Words.{psi_reach}
+use Rattle.live.proofs.Words.{psi_held}
 use Rattle.live.proofs.Taken.{refused_by_range, judged_by_range}
 use Rattle.live.proofs.take_psi.Goals.{In_ok-psi}
 use Rattle.live.proofs.take_psi.Goals as goal
@@ -25,7 +25,7 @@ unfolding pressure_of single_of
 returns-in_err-psi c =
     let passed_on : c.from_residual.result ≡ Err c.in_err-psi.field-0.0 = search rules in
     let z = whole_of 0 1 c.args.x in
-    ap told passed_on ∙ sym (refused_by_range (finite c.args.x) (held z) (psi_ok z) z (psi_reach z) (sym c.in_err-psi.ensures))
+    ap told passed_on ∙ sym (refused_by_range (finite c.args.x) (held z) (psi_ok z) z (psi_held z) (sym c.in_err-psi.ensures))
 
 pub returns-in_err-demand : goal.returns-in_err-demand
 returns-in_err-demand c =

@@ -7,7 +7,7 @@ use Rattle.refusals.specs.Answered.{told}
 use Rattle.refusals.proofs.Laws.{judged_fine, judged_fault}
 use Rattle.live.specs.Live.{whole_of, single_of}
 use Rattle.live.specs.Word.{held}
-use Rattle.live.proofs.Words.{temperature_reach}
+use Rattle.live.proofs.Words.{temperature_held}
 use Rattle.live.proofs.Taken.{refused_by_range, judged_by_range}
 use Rattle.live.proofs.take_tenths.Goals.{In_ok-tenths}
 use Rattle.live.proofs.take_tenths.Goals as goal
@@ -28,7 +28,7 @@ unfolding single_of
 returns-in_err-tenths c =
     let passed_on : c.from_residual.result ≡ Err c.in_err-tenths.field-0.0 = search rules in
     let z = whole_of c.args.offset c.args.times c.args.x in
-    ap told passed_on ∙ sym (refused_by_range (finite c.args.x) (held z) (temperature_ok z) z (temperature_reach z) (sym c.in_err-tenths.ensures))
+    ap told passed_on ∙ sym (refused_by_range (finite c.args.x) (held z) (temperature_ok z) z (temperature_held z) (sym c.in_err-tenths.ensures))
 
 pub returns-in_err-demand : goal.returns-in_err-demand
 returns-in_err-demand c =

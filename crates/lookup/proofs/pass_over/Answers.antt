@@ -1,50 +1,45 @@
 -- `lookup::pass_over` meets its contract.
 use mathlib.Core.Path.{◌≡◌, refl, sym, ap, ◌∙◌, subst}
 use mathlib.Core.Logic.{inl, inr}
-use Prim.Native.Nat.{ℕ, ◌+◌}
+use Prim.Native.Nat.{ℕ, ◌+◌, ◌<◌}
 use native.Mathlib.Omega.{arith}
+use borrow.Author.Tests.{ltb-true}
 use lib.Dec.{ltb}
-use Rattle.refusals.specs.Table.{number_of, record_of}
-use Rattle.refusals.specs.Told.{done, refused, demand_at}
-use Rattle.refusals.proofs.Laws.{judged_fine, judged_fault}
-use Rattle.refusals.specs.declared.Refusal.{Refusal}
+use Rattle.refusals.specs.Told.{fine, done, demand_at}
+use Rattle.refusals.proofs.Laws.{demand_at_was, judged_fine, judged_fault}
 use Rattle.octets.specs.FirstToLast.{first_place}
 use Rattle.octets.proofs.FirstToLast.{faults, nowhere}
-use Rattle.lookup.specs.Table.{record_ok}
-use Rattle.lookup.specs.Rank.{is_wanted}
+use Rattle.lookup.specs.Rank.{rank_at, is_wanted}
 use Rattle.lookup.specs.Answers.{entry_fault}
-use Rattle.lookup.proofs.Judged.{refusal_back, instead}
-use Rattle.lookup.proofs.Rank.{ranked_was, ranked_not}
-use Rattle.lookup.proofs.Sound.{by_rank, faulty, first_fault}
-use Rattle.lookup.proofs.Passed.{Passed, test_is, one_passed, placed}
-use Rattle.lookup.proofs.pass_over.Goals.{then-eq, else-eq}
+use Rattle.lookup.proofs.Judged.{refusal_back}
+use Rattle.lookup.proofs.Sound.{by_rank, first_fault}
+use Rattle.lookup.proofs.Passed.{Passed, asked_for, not_asked_for, one_passed, placed}
+use Rattle.lookup.proofs.pass_over.Goals.{After-demand, then-rank-asked, else-rank-asked}
 use Rattle.lookup.proofs.pass_over.Goals as goal
 
-pub returns-in_err-rank : goal.returns-in_err-rank
-returns-in_err-rank c = let s = c.args.s.now in
-    let l = c.loop-i in
-    let none = c.in_err-rank.ensures.ok_part in
-    let given = instead none c.in_err-rank.ensures.value in
-    let bad = ranked_not _ (record_ok s l.i) (sym c.rank_at.ensures ∙ none) in
-    refusal_back _ _ c.from_residual.ensures.1
-    (judged_fault _ (first_fault s c.args.entries l.i (omega arith) l.invariant.none (faulty s l.i bad)) ∙ ap (λ (r : Refusal). refused (number_of r) (record_of r)) (sym given))
+-- the record is judged by the paper's order as the code judges it
+judged : (c : After-demand) → entry_fault c.args.s.now c.loop-i.i ≡ demand_at (ltb c.loop-i.before c.rank_of_part-rank.result) 32 (c.loop-i.i + 1)
+judged c = let l = c.loop-i in by_rank c.args.s.now l.i l.invariant.none ∙ (λ i. demand_at (ltb (sym l.invariant.last i) (sym c.rank_of_part-rank.ensures i)) 32 (l.i + 1))
 
 pub returns-in_err-demand : goal.returns-in_err-demand
-returns-in_err-demand c = let s = c.args.s.now in
-    let l = c.loop-i in
-    let rank = ranked_was (record_ok s l.i) (sym c.rank_at.ensures ∙ c.in_ok-rank.ensures.ok_part) in
-    let here = by_rank s l.i l.invariant.none ∙ (λ i. demand_at (ltb (sym l.invariant.last i) (rank.1 i)) 32 (l.i + 1)) ∙ sym (c.in_err-demand.ensures) in
-    refusal_back _ _ c.from_residual-in_err-demand.ensures.1 (judged_fault _ (first_fault s c.args.entries l.i (omega arith) l.invariant.none here))
+returns-in_err-demand c = let l = c.loop-i in
+    let here = judged (goal.at.returns-in_err-demand c).After-demand ∙ sym (c.in_err-demand.ensures) in
+    refusal_back _ _ c.from_residual.ensures.1 (judged_fault _ (first_fault c.args.s.now c.args.entries l.i (omega arith) l.invariant.none here))
 
 pub loop-i-preserved : goal.loop-i-preserved
 loop-i-preserved c = let s = c.args.s.now in
     let wanted = c.args.wanted in
     let l = c.loop-i in
-    let rank = ranked_was (record_ok s l.i) (sym c.rank_at.ensures ∙ c.in_ok-rank.ensures.ok_part) in
-    let clear = by_rank s l.i l.invariant.none ∙ (λ i. demand_at (ltb (sym l.invariant.last i) (rank.1 i)) 32 (l.i + 1)) ∙ sym (c.in_ok-demand.ensures) in
-    let tested = sym (test_is s wanted l.i rank.1) ∙ sym c.eq.ensures in
-    subst (λ (before : ℕ). Passed s wanted before c.if-eq.place (l.i + 1)) rank.1
-    (one_passed l.invariant clear (elim c.if-eq.branch [ then-eq w ↦ inl (tested ∙ w.if-eq.true, w.place-is) | else-eq w ↦ inr (tested ∙ w.if-eq.false, w.place-is) ]))
+    let rank = c.rank_of_part-rank.ensures in
+    let asked = c.unwrap_or-asked.ensures in
+    let clear : entry_fault s l.i ≡ fine = judged (goal.at.loop-i-preserved c).After-demand ∙ sym (c.in_ok-demand.ensures) in
+    let more : l.before < c.rank_of_part-rank.result = ltb-true l.before c.rank_of_part-rank.result (demand_at_was _ 32 (l.i + 1) (sym (c.in_ok-demand.ensures))) in
+    let above : 0 < rank_at s l.i = omega (arith, rank, more) in
+    subst (λ (before : ℕ). Passed s wanted before c.if-rank-asked.place (l.i + 1)) (sym rank)
+    (one_passed l.invariant clear (elim c.if-rank-asked.branch [
+      | then-rank-asked w ↦ inl (asked_for s wanted l.i above (sym rank ∙ w.if-rank-asked.true ∙ asked), w.place-is)
+      | else-rank-asked w ↦ inr (not_asked_for s wanted l.i (λ is. w.if-rank-asked.false (rank ∙ is ∙ sym asked)), w.place-is)
+    ]))
 
 pub returns : goal.returns
 returns c = let s = c.args.s.now in

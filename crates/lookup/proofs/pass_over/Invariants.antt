@@ -4,4 +4,4 @@ use Rattle.lookup.proofs.Passed.{Passed}
 use Rattle.lookup.proofs.pass_over.Given as goal
 
 abbrev pub invariant-loop-i : goal.invariant-loop-i
-invariant-loop-i l = Passed l.s l.wanted l.before l.place l.i
+invariant-loop-i l = Passed l.s l.fn.wanted l.before l.place l.i

@@ -12,8 +12,7 @@ use Rattle.lookup.specs.Table.{entry_at, entry_ok, record_ok}
 use Rattle.lookup.specs.Rank.{rank_of}
 use Rattle.lookup.specs.declared.Entry.{Entry}
 use Rattle.lookup.proofs.Counted.{counted}
-use Rattle.lookup.proofs.Rank.{is_ranked, not_ranked}
-use Rattle.lookup.proofs.Sound.{good_temperature, rank_good}
+use Rattle.lookup.proofs.Sound.{good_temperature, rank_good, rank_faulty}
 use Rattle.lookup.proofs.rank_at.Lts.View as view
 use Rattle.lookup.proofs.rank_at.Goals.{After-word_at, Then-is_entry-word_at}
 use Rattle.lookup.proofs.rank_at.Goals as goal
@@ -37,8 +36,7 @@ unfolding rank_of
 returns-then-is_entry-word_at c = let a = c.args in
     let gravity = ap (λ (e : Entry). e.gravity) c.decode-entry.ensures in
     let count = c.count_up.ensures.0 ∙ ap counted (back (goal.at.returns-then-is_entry-word_at c).After-word_at) in
-    let ok = good (goal.at.returns-then-is_entry-word_at c).Then-is_entry-word_at in
-    is_ranked ok ((λ i. 4096 * gravity i + count i) ∙ sym (rank_good a.s.now a.i ok))
+    (λ i. 4096 * gravity i + count i) ∙ sym (rank_good a.s.now a.i (good (goal.at.returns-then-is_entry-word_at c).Then-is_entry-word_at))
 
 pub returns : goal.returns
-returns c = not_ranked _ (tested (goal.at.returns c).After-word_at ∙ c.if-is_entry-word_at.false)
+returns c = let a = c.args in sym (rank_faulty a.s.now a.i (tested (goal.at.returns c).After-word_at ∙ c.if-is_entry-word_at.false))

@@ -1,14 +1,14 @@
 -- `numerals::read_number` meets its contract. The loop's invariant: the digits left go on from the value so far to the whole number.
 use Rattle.std.proofs.Common.{arith, ◌≡◌, ◌<◌, ◌+◌, ◌*◌, sym, ap, ◌∙◌, None, drop, ℕ}
 use Rattle.numerals.specs.Numbers.{go_on, up_to, number_of}
-use Rattle.numerals.proofs.Numbers.{one_digit, too_large}
+use Rattle.numerals.proofs.Numbers.{digit_read, too_large}
 use Rattle.numerals.proofs.read_number.Goals.{In_ok-digit}
 use Rattle.numerals.proofs.read_number.Goals as goal
 
 -- a digit goes on from the value so far
 stepped : (c : In_ok-digit) → number_of c.args.most c.args.word.now ≡ up_to c.args.most (go_on (10 * c.loop-byte.value + c.in_ok-digit.digit) (drop (c.loop-byte.byte-index + 1) c.args.word.now))
 stepped c = let l = c.loop-byte in
-    l.invariant ∙ ap (up_to c.args.most) (one_digit l.value c.in_ok-digit.digit c.args.word.now l.byte-index (omega arith) (sym c.value_digit.ensures ∙ c.in_ok-digit.was))
+    l.invariant ∙ ap (up_to c.args.most) (digit_read l.value c.in_ok-digit.digit c.args.word.now l.byte-index (omega arith) (sym c.value_digit.ensures ∙ c.in_ok-digit.was))
 
 -- and passes the most that the operand holds
 passed : (c : In_ok-digit) → c.args.most < 10 * c.loop-byte.value + c.in_ok-digit.digit → None ≡ number_of c.args.most c.args.word.now

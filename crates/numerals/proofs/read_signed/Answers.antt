@@ -1,12 +1,12 @@
 -- `numerals::read_signed` meets its contract: behind a `-`, a number read without it.
 use Rattle.std.proofs.Common.{◌≡◌, sym, ap, ◌∙◌}
 use Rattle.numerals.specs.Numbers.{negated, signed_of}
-use Rattle.numerals.proofs.Numbers.{taken_signed}
+use Rattle.numerals.proofs.Numbers.{dash_taken}
 use Rattle.numerals.proofs.read_signed.Goals.{After-read_number}
 use Rattle.numerals.proofs.read_signed.Goals as goal
 
 behind : (c : After-read_number) → signed_of c.args.word.now ≡ negated c.read_number.result
-behind c = taken_signed c.args.word.now (sym c.starts_with.ensures.value ∙ c.if-starts_with.true) ∙ ap negated (sym c.read_number.ensures)
+behind c = dash_taken c.args.word.now (sym c.starts_with.ensures.value ∙ c.if-starts_with.true) ∙ ap negated (sym c.read_number.ensures)
 
 pub returns-in_err-read_number : goal.returns-in_err-read_number
 unfolding negated

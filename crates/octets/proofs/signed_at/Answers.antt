@@ -1,7 +1,7 @@
 -- `octets::signed_at` meets its contract: the machine's two's complement is the paper's signed word.
-use mathlib.Core.Path.{◌≡◌, ◌∙◌, ap}
+use mathlib.Core.Path.{◌≡◌, sym, ◌∙◌, ap}
 use mathlib.Core.Logic.{by_cases}
-use Prim.Native.Nat.{ℕ, suc, ◌-◌, ◌<◌}
+use Prim.Native.Nat.{ℕ, suc, ◌-◌, ◌≤◌, ◌<◌}
 use native.Mathlib.Decide.{dec_lt}
 use native.Mathlib.Omega.{arith}
 use Rattle.std.proofs.Common.{rules}
@@ -11,16 +11,19 @@ use mir.Syntax.{w16}
 use mir.Val.{to_z, of_z}
 use Rattle.std.proofs.Math.Facts.{of_z-to_z}
 use Rattle.octets.specs.Octets.{signed_at, signed_of}
+use Rattle.octets.proofs.Laws.{signed_low, signed_high}
 use Rattle.octets.proofs.signed_at.Goals as goal
 
+machine-low : (x : ℕ) → x < 32768 → to_z w16 x ≡ signed_of x
+machine-low x h = rw (lt-ltb x 32768 h) (sym (signed_low x h))
+
+machine-high : (x : ℕ) → 32768 ≤ x → x < 65536 → to_z w16 x ≡ signed_of x
+machine-high x h l =
+    let less : 65536 - suc x ≡ 65535 - x = omega arith in
+    rw (le-ltb x 32768 h, less) (sym (signed_high x h l))
+
 machine : (x : ℕ) → x < 65536 → to_z w16 x ≡ signed_of x
-unfolding signed_of
-machine x small =
-    by_cases (dec_lt x 32768)
-    (λ low. rw (lt-ltb x 32768 low))
-    (λ high.
-    let less : 65536 - x ≡ suc (65536 - suc x) = omega arith in
-    rw (le-ltb x 32768 (omega arith), less))
+machine x small = by_cases (dec_lt x 32768) (machine-low x) (λ high. machine-high x (omega arith) small)
 
 pub returns : goal.returns
 unfolding signed_at

@@ -12,7 +12,7 @@ use Rattle.refusals.specs.Told.{done}
 use Rattle.book.specs.Calls.{of_turn, oldest_of, handed_out, has_any}
 use Rattle.book.specs.Figures.{shippers, line_at, waiting_of, has}
 use Rattle.book.proofs.Books.{sound_is}
-use Rattle.book.proofs.Kept.{turn_is, turn_none}
+use Rattle.book.proofs.Kept.{turn_here, turn_nowhere}
 use Rattle.book.proofs.Waiting.{oldest, nobody}
 use Rattle.book.proofs.judge.hand_out.Goals as goal
 
@@ -26,7 +26,7 @@ returns-in-Some c =
     let found = oldest c.waiting.result.now c.in-Some.field-0.now c.in-Some.ensures.value in
     let any = ap (λ (xs : List ℕ). ltb 0 (length xs)) (sym c.waiting.ensures) ∙ found.0 in
     let number = found.1 ∙ ap (λ (xs : List ℕ). get_or xs 0 0) c.waiting.ensures in
-    rw (turn_is c.args.book turn (omega arith) (omega arith) any c.loop-turn.invariant) (λ i. done (record { shipper = (c.args.book.last + turn) % 4; number = number i }))
+    rw (turn_here c.args.book turn (omega arith) (omega arith) any c.loop-turn.invariant) (λ i. done (record { shipper = (c.args.book.last + turn) % 4; number = number i }))
 
 pub loop-turn-preserved : goal.loop-turn-preserved
 unfolding line_at waiting_of has has_any of_turn shippers
@@ -39,4 +39,4 @@ loop-turn-preserved c = λ j l h.
 
 pub returns : goal.returns
 unfolding handed_out
-returns c = rw (turn_none c.args.book (λ j l h. c.loop-turn.invariant j l (omega arith)))
+returns c = rw (turn_nowhere c.args.book (λ j l h. c.loop-turn.invariant j l (omega arith)))

@@ -10,13 +10,13 @@ use Rattle.refusals.proofs.Laws.{judged_fault, or_else_first, demand_was, demand
 use Rattle.live.specs.Live.{whole_of, single_of}
 use Rattle.live.specs.Word.{held}
 use Rattle.live.proofs.Fields.{field_of, finite_by_field}
-use Rattle.live.proofs.Laws.{is_finite_is, whole_far}
+use Rattle.live.proofs.Laws.{finite_no_nan, whole_far}
 use Rattle.live.proofs.Words.{held_far}
 use Rattle.live.proofs.single.round.Goals.{Start, In_ok-demand}
 use Rattle.live.proofs.single.round.Goals as goal
 
 is-number : (c : In_ok-demand) → finite c.args.x ≡ true
-is-number c = sym (is_finite_is c.args.x) ∙ sym c.is_finite.ensures.value ∙ demand_was _ 12 (sym c.in_ok-demand.ensures)
+is-number c = sym c.is_finite.ensures ∙ demand_was _ 12 (sym c.in_ok-demand.ensures)
 
 -- of a number the range is left to judge
 finite-judged : (c : In_ok-demand) → single_of held c.args.offset c.args.times c.args.x ≡ judged (demand (held (whole_of c.args.offset c.args.times c.args.x)) 13) (whole_of c.args.offset c.args.times c.args.x)
@@ -31,8 +31,11 @@ pub returns-in_err-demand : goal.returns-in_err-demand
 unfolding single_of
 returns-in_err-demand c =
     let passed_on : c.from_residual.result ≡ Err c.in_err-demand.field-0.0 = search rules in
-    let number = c.in_err-demand.ensures ∙ ap (λ (ok : Bool). demand ok 12) (c.is_finite.ensures.value ∙ is_finite_is c.args.x) in
+    let number = c.in_err-demand.ensures ∙ ap (λ (ok : Bool). demand ok 12) c.is_finite.ensures in
     ap told passed_on ∙ sym (judged_fault _ (or_else_first _ (sym number)))
+
+pub float_to_bits-bits : goal.float_to_bits-bits
+float_to_bits-bits c = finite_no_nan c.args.x (is-number (goal.at.float_to_bits-bits c).In_ok-demand)
 
 pub returns-then-bits-lt150 : goal.returns-then-bits-lt150
 returns-then-bits-lt150 c =

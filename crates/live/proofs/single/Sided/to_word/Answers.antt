@@ -3,22 +3,26 @@ use Rattle.std.proofs.Common.{w16, to_z, of_z, ◌≡◌, sym, ap, ◌∙◌, Bo
 use mathlib.Core.Logic.{by_cases}
 use native.Mathlib.Decide.{dec_le}
 use native.Mathlib.Nat.{lt_of_not-le}
-use lib.IntN.{neg_ℤ, +ℤ_idl}
 use mir.ValLaws.{to_z-of_z}
 use Rattle.refusals.specs.Told.{done, demand, judged}
 use Rattle.refusals.proofs.Laws.{judged_fine, judged_fault, demand_holds, demand_fails}
 use Rattle.live.specs.Exact.{sided}
 use Rattle.live.specs.Word.{held}
 use Rattle.live.proofs.Sides.{size_sided}
-use Rattle.live.proofs.Words.{held_near, held_far, sided_fits}
+use Rattle.live.proofs.Words.{held_near, held_far, machine_above, machine_below, sided_fits}
 use Rattle.live.proofs.single.Sided.to_word.Goals.{In-Ok}
 use Rattle.live.proofs.single.Sided.to_word.Goals as goal
 
 small : (c : In-Ok) → c.args.self.size < 32768
 small c = let h = c.in-Ok.ensures.0 in omega (arith, h.sfits)
 
-read-back : (c : In-Ok) → to_z w16 (of_z w16 c.in-Ok.size) ≡ pos c.args.self.size
-read-back c = ap (λ (z : ℤ). to_z w16 (of_z w16 z)) c.in-Ok.ensures.1 ∙ to_z-of_z w16 (pos c.args.self.size) c.in-Ok.ensures.0
+fits-in-15 : (c : In-Ok) → c.args.self.size ≤ 32767
+fits-in-15 c = omega (arith, small c)
+
+-- the size in the machine
+read-back : (c : In-Ok) → to_z w16 (of_z w16 c.in-Ok.size) ≡ to_z w16 c.args.self.size
+read-back c =
+    ap (λ (z : ℤ). to_z w16 (of_z w16 z)) c.in-Ok.ensures.1 ∙ to_z-of_z w16 (pos c.args.self.size) c.in-Ok.ensures.0 ∙ sym (machine_above c.args.self.size (fits-in-15 c))
 
 -- the side of zero, as the branch found it
 found : (c : In-Ok) {side : Bool} → c.args.self.below ≡ side
@@ -39,9 +43,9 @@ returns-then-self c =
     let n = c.args.self.size in
     let at = (goal.at.returns-then-self c).In-Ok in
     ap (λ (z : ℤ). done (to_z w16 (of_z w16 (pos 0 -ℤ z)))) (read-back at)
-    ∙ ap (λ (z : ℤ). done (to_z w16 (of_z w16 z))) (+ℤ_idl (neg_ℤ (pos n)))
+    ∙ ap (λ (z : ℤ). done (to_z w16 (of_z w16 z))) (machine_below n (fits-in-15 at))
     ∙ ap done (to_z-of_z w16 (sided true n) (sided_fits true n (small at)))
     ∙ found at c.if-self.true
 
 pub returns-else-self : goal.returns-else-self
-returns-else-self c = let at = (goal.at.returns-else-self c).In-Ok in ap done (read-back at) ∙ found at c.if-self.false
+returns-else-self c = let at = (goal.at.returns-else-self c).In-Ok in ap done (read-back at ∙ machine_above c.args.self.size (fits-in-15 at)) ∙ found at c.if-self.false
