@@ -25,11 +25,16 @@ STARTING = 60
 TIDYING = 3
 
 
+def leave(*_):
+    """Asked to end: what is half written goes with it. Asked again, it stays on its way out, without a word."""
+    signal.signal(signal.SIGTERM, lambda *_: None)
+    sys.exit(1)
+
+
 def work(wanted="{}"):
     """A worker: a line when it is up, then a path a line in, its row a line out."""
     answers, sys.stdout = sys.stdout, sys.stderr
-    # What is half written goes with it.
-    signal.signal(signal.SIGTERM, lambda *_: sys.exit(1))
+    signal.signal(signal.SIGTERM, leave)
     extras = Extras(**json.loads(wanted))
     print("{}", file=answers, flush=True)
     with Program() as program:

@@ -193,6 +193,18 @@ def tidied(tally, folder):
     tally.same(worker.process.wait(20), 1, "a worker that is ended")
 
 
+def asked_again(tally, _):
+    """A worker that is asked to end once more while it ends stays on its way, without a word."""
+    while_it_ends = "import atexit, signal; atexit.register(signal.raise_signal, signal.SIGTERM); "
+    command = [sys.executable, "-c", while_it_ends + crew.START, str(ROOT)]
+    pipes = {"stdin": subprocess.PIPE, "stdout": subprocess.PIPE, "stderr": subprocess.PIPE}
+    process = subprocess.Popen([*command, "{}"], **pipes)
+    process.stdout.readline()
+    process.terminate()
+    _, err = process.communicate(timeout=20)
+    tally.same((process.returncode, err), (1, b""), "a worker that is asked again")
+
+
 def lost_worker(tally, folder):
     """A worker that is killed costs one job, and the others go to a new one."""
     for number in range(40):
@@ -211,7 +223,8 @@ def lost_worker(tally, folder):
 
 def test():
     tally = Tally("obstacles")
-    for part in (obstacles, second_stop, unreadable, onto_runs, unexpected, reader_gone, tidied, lost_worker):
+    parts = (obstacles, second_stop, unreadable, onto_runs, unexpected, reader_gone, tidied, asked_again, lost_worker)
+    for part in parts:
         with tempfile.TemporaryDirectory() as folder:
             part(tally, Path(folder))
     return tally
