@@ -225,7 +225,7 @@ def main():
     for fault in found:
         print(fault)
     programs = sum(len(list(wrong_programs(folder))) for folder in crates(ROOT))
-    print(f"contracts: {len(dict(rows((ROOT / 'docs/CONTRACTS.md').read_text())))} public functions, {programs} wrong programs, {len(found)} faults")
+    print(f"contracts: {len(dict(rows((ROOT / 'docs/CONTRACTS.md').read_text())))} functions on its page, {programs} wrong programs, {len(found)} faults")
     return 1 if found else 0
 
 
