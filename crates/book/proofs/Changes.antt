@@ -1,15 +1,10 @@
 -- What a call is answered and the book that it leaves, of what it makes of the book where nothing is at fault.
 use mathlib.Core.Path.{◌≡◌, refl}
 use Rattle.refusals.specs.Told.{Fault, fine, fault, judged, left_by}
-use Rattle.book.specs.Calls.{done_with}
 use Rattle.book.specs.declared.Book.{Book}
-
-pub judged_answer : (f : Fault) (next : Book) → done_with (judged f next) ≡ judged f tt
-judged_answer fine next = refl
-judged_answer (fault number at) next = refl
 
 pub judged_left : (f : Fault) (next found : Book) → left_by (judged f next) (λ (left : Book). left) found ≡ left_by {A = Unit {0}} (judged f tt) (λ (made : Unit). next) found
 judged_left fine next found = refl
 judged_left (fault number at) next found = refl
 
-pub ruleset changes = (judged_answer, judged_left)
+pub ruleset changes = (judged_left)

@@ -12,11 +12,6 @@ use Rattle.book.specs.declared.Shared.{Shared}
 use Rattle.book.specs.declared.Book.{Book}
 use Rattle.book.specs.declared.Figures.{Figures}
 
--- that a call was done, whatever it leaves
-abbrev pub done_with : {A : Type 0} → Told A → Told Unit
-done_with (done x) = done tt
-done_with (refused number at) = refused number at
-
 -- 'a request 20 to 25; a withdrawal 20, 21, 22, 26': the first three are the same.
 unfoldable pub call_fault : Book → ℕ → ℕ → Fault
 call_fault book shipper number =

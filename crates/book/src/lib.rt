@@ -1,11 +1,11 @@
 // The book of waiting requests (01, 'The book'; 02, 'Places by agreement'), by value: it goes in and comes back with each call,
-// and a refusal hands the same book back. Its answers stand beside it, since a book holds arrays.
+// and a refusal hands the same book back. The answer stands beside it.
 #![tactic(auto)]
 
 ghost use Rattle.std.specs.Prelude.{◌≡◌, true, ◌<◌};
-ghost use Rattle.refusals.specs.Told.{judged, left_by};
+ghost use Rattle.refusals.specs.Told.{Fault, judged, left_by};
 ghost use Rattle.octets.specs.Lists.{is_one_of};
-ghost use Rattle.book.specs.Calls.{request_fault, request_of, entered, after_request, withdrawal_fault, withdrawal_of, removed, after_withdrawal, take_of, after_take, agreed, setting_fault, setting_of, after_setting, commons_of, done_with};
+ghost use Rattle.book.specs.Calls.{request_fault, request_of, entered, after_request, withdrawal_fault, withdrawal_of, removed, after_withdrawal, take_of, after_take, agreed, setting_fault, setting_of, after_setting, commons_of};
 ghost use Rattle.book.specs.Figures.{empty_book, waiting_of};
 ghost use Rattle.book.specs.Sound.{is_sound};
 ghost use Rattle.refusals.specs.Answered.{told};
@@ -111,7 +111,7 @@ pub struct Shared {
 
 // The answer of a call, and the book that it leaves: a refusal hands the same book back.
 fn change(book: Book, next: Result<Book, Refusal>) -> Changed
-    ensures answer { told result.answer ≡ done_with (told next) }
+    ensures answer { (f : Fault) (made : Book) → told next ≡ judged f made → told result.answer ≡ judged f tt }
     ensures book { result.book ≡ left_by (told next) (λ left. left) book }
 {
     match next {
