@@ -139,7 +139,7 @@ fn enter(book: Book, shipper: u8, number: u32) -> Result<Book, Refusal>
 }
 
 // A shipper asks that a request waits.
-#[tactic(auto, using(crate::proofs::Changes::changes), unfolding(crate::specs::Calls::request_of, crate::specs::Calls::after_request))]
+#[tactic(auto, using(crate::proofs::Changes::judged_left), unfolding(crate::specs::Calls::request_of, crate::specs::Calls::after_request))]
 pub fn request(book: Book, shipper: u8, number: u32) -> Changed
     ensures { (told result.answer ≡ request_of book shipper number) × (result.book ≡ after_request book shipper number) }
 {
@@ -170,7 +170,7 @@ fn take_back(book: Book, shipper: u8, number: u32) -> Result<Book, Refusal>
 }
 
 // A shipper takes a request back.
-#[tactic(auto, using(crate::proofs::Changes::changes), unfolding(crate::specs::Calls::withdrawal_of, crate::specs::Calls::after_withdrawal))]
+#[tactic(auto, using(crate::proofs::Changes::judged_left), unfolding(crate::specs::Calls::withdrawal_of, crate::specs::Calls::after_withdrawal))]
 pub fn withdraw(book: Book, shipper: u8, number: u32) -> Changed
     ensures { (told result.answer ≡ withdrawal_of book shipper number) × (result.book ≡ after_withdrawal book shipper number) }
 {
@@ -201,7 +201,7 @@ fn agree(book: Book, figures: Figures) -> Result<Book, Refusal>
 }
 
 // Figures are set on an empty book.
-#[tactic(auto, using(crate::proofs::Changes::changes), unfolding(crate::specs::Calls::setting_of, crate::specs::Calls::after_setting))]
+#[tactic(auto, using(crate::proofs::Changes::judged_left), unfolding(crate::specs::Calls::setting_of, crate::specs::Calls::after_setting))]
 pub fn set_figures(book: Book, figures: Figures) -> Changed
     ensures { (told result.answer ≡ setting_of book figures) × (result.book ≡ after_setting book figures) }
 {
